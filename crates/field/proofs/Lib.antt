@@ -1,0 +1,6 @@
+pub mod Tested
+pub mod Linear
+pub mod Products
+mod Exponents
+mod Entries
+pub mod Dots

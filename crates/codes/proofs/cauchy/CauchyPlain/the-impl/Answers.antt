@@ -1,0 +1,5 @@
+use Rattle.codes.proofs.TwoCodes.{cauchy-plain}
+use Rattle.codes.proofs.cauchy.CauchyPlain.the-impl.Needs as need
+
+pub plain-law : need.plain-law
+plain-law c = cauchy-plain

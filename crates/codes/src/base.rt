@@ -2,13 +2,13 @@
 ghost use mathlib.Core.Bool.{cond};
 ghost use mathlib.Core.Path.{_≡_};
 ghost use lib.ListN.{length};
-ghost use Rattle.codes.specs.Codewords.{Sound, Plain};
+ghost use Rattle.tables.specs.Codewords.{Sound, Plain};
 ghost use Rattle.codes.specs.Columns.{column-fits, parities, column-answer};
-ghost use Rattle.codes.specs.Multipliers.{entry, multiplier-of};
-ghost use Rattle.codes.specs.declared.table.Table.{Table as Multipliers};
+ghost use Rattle.tables.specs.Multipliers.{entry, multiplier-of};
+ghost use Rattle.tables.specs.declared.table.Table.{Table as Multipliers};
 use crate::refusal::Refusal;
-use crate::table::Row;
-use crate::table::Table;
+use tables::table::Row;
+use tables::table::Table;
 use field::symbol::ByteSymbol;
 use field::symbol::sum_of_products;
 

@@ -3,4 +3,3 @@ pub mod base;
 pub mod cauchy;
 pub mod poly;
 pub mod refusal;
-pub mod table;

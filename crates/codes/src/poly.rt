@@ -1,10 +1,13 @@
-// The base code POLY: the parities are the remainder of a polynomial division.
+// The base code POLY, whose parities are the remainder of a polynomial division.
 ghost use mathlib.Core.Path.{_≡_};
-ghost use Rattle.codes.specs.Kept.{poly-sound};
-ghost use Rattle.codes.specs.Multipliers.{poly};
+ghost use lib.ListN.{length};
+ghost use Rattle.tables.proofs.TwoCodes.{poly-sound};
+ghost use Rattle.tables.specs.Multipliers.{entry, poly};
+ghost use Rattle.codes.specs.Columns.{parities};
 use crate::base::BaseCode;
-use crate::table::Row;
-use crate::table::Table;
+use crate::refusal::Refusal;
+use tables::known::poly_table;
+use tables::table::Table;
 
 #[derive(Clone, Copy)]
 pub struct Poly {
@@ -14,13 +17,45 @@ pub struct Poly {
 
 impl Poly {
     pub fn new() -> Poly {
-        Poly {
-            table: Table {
-                f1: Row { at: [246, 226, 254, 119, 218, 167, 84, 92, 99, 15] },
-                f2: Row { at: [82, 33, 129, 57, 213, 217, 140, 7, 87, 54] },
-                f3: Row { at: [135, 179, 242, 203, 188, 219, 71, 191, 210, 120] },
-                f4: Row { at: [34, 113, 140, 132, 178, 164, 158, 229, 231, 64] },
-            },
-        }
+        Poly { table: poly_table() }
     }
+}
+
+pub impl BaseCode for Poly as PolyCode {
+    ghost table = { λ _. poly };
+
+    ghost sound = { λ _. poly-sound };
+
+    fn table(&self) -> Table {
+        self.table
+    }
+
+    // Works the column by the division.
+    fn column(&self, bytes: &[u8], place: &mut [u8]) -> Result<(), Refusal> {
+        if bytes.len() != 10 || place.len() != 4 {
+            return Err(Refusal::WrongLength);
+        }
+        place.copy_from_slice(&remainder(bytes));
+        Ok(())
+    }
+}
+
+// The coefficients of X^3, X^2, X and 1 in the remainder of d1 X^13 + … + d10 X^4 by X^4 + 15 X^3 + 54 X^2 + 120 X + 64:
+// the dividend is taken in from its highest coefficient on, and each time the quotient's next coefficient takes a multiple of the divisor away.
+fn remainder(bytes: &[u8]) -> [u8; 4]
+    requires { ⌜ length (now bytes) ≡ 10 ⌝ }
+    ensures { λ r. ⌜ r ≡ parities (entry poly) (now (bytes .entry)) ⌝ }
+{
+    let mut x3 = 0u8;
+    let mut x2 = 0u8;
+    let mut x1 = 0u8;
+    let mut x0 = 0u8;
+    for d in bytes {
+        let q = x3 ^ *d;
+        x3 = x2 ^ field::mul(15, q);
+        x2 = x1 ^ field::mul(54, q);
+        x1 = x0 ^ field::mul(120, q);
+        x0 = field::mul(64, q);
+    }
+    [x3, x2, x1, x0]
 }

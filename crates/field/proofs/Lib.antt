@@ -3,4 +3,5 @@ pub mod Linear
 pub mod Products
 mod Exponents
 mod Entries
+pub mod BytesSpace
 pub mod Dots

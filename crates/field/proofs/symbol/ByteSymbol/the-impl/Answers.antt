@@ -1,21 +1,5 @@
-use mathlib.Core.Path.{refl}
-use lib.Bits.{xor-lt, xor-comm, xor-assoc, xor-self}
-use lib.Dec.{lit<}
-use Rattle.field.proofs.Linear.{Lin}
-use Rattle.field.proofs.Products.{gmul-lt, gmul-l, gmul-r, gmul-assoc, gmul-one-l}
+use Rattle.field.proofs.BytesSpace.{bytes}
 use Rattle.field.proofs.symbol.ByteSymbol.the-impl.Needs as need
 
 pub space-law : need.space-law
-space-law = record {
-  ok-zero = lit< tt;
-  ok-sum = xor-lt 8;
-  ok-times = gmul-lt;
-  comm = xor-comm;
-  assoc = xor-assoc;
-  unit = λ x h. refl;
-  self = λ x h. xor-self x;
-  left = λ c d x. gmul-l x .xors c d;
-  right = λ c x y. gmul-r c .xors x y;
-  twice = gmul-assoc;
-  one = gmul-one-l;
-}
+space-law = bytes

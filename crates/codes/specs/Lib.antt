@@ -1,2 +1,4 @@
 pub mod Refusals
 pub mod Columns
+pub mod Versions
+pub mod Spans

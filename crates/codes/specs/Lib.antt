@@ -2,3 +2,4 @@ pub mod Refusals
 pub mod Columns
 pub mod Versions
 pub mod Spans
+pub mod Lists

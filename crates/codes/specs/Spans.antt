@@ -1,5 +1,5 @@
--- A group is a run of neighbouring positions.
-use Prim.Native.Nat.{ℕ, _-_, _≤_}
+-- A group is a run of at most four neighbouring positions.
+use Prim.Native.Nat.{ℕ, _+_, _-_, _≤_}
 use mathlib.Core.Path.{_≡_}
 use Rattle.tables.specs.Multipliers.{upto}
 use Rattle.codes.specs.Versions.{group}
@@ -9,4 +9,5 @@ use Rattle.codes.specs.declared.version.Version.{Version}
 pub record Run (v : Version) (l i j : ℕ) : Type 0 where
   pub rise : i ≤ j
   pub within : j ≤ 10
+  pub narrow : j ≤ i + 4
   pub members : upto i (j - i) ≡ group v l

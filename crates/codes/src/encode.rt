@@ -92,7 +92,7 @@ fn share_of<S: Symbol + Copy>(version: Version, second: &Row, j: usize, x: S) ->
 }
 
 // The group of parity l: the positions from the first number to below the second.
-fn span(version: Version, l: u8) -> (usize, usize)
+pub(crate) fn span(version: Version, l: u8) -> (usize, usize)
     requires { ⌜ l < 4 ⌝ }
     ensures { λ r. ⌜ Run version l (r .0) (r .1) ⌝ }
 {

@@ -2,6 +2,8 @@
 pub mod base;
 pub mod cauchy;
 pub mod encode;
+pub mod fetch;
+pub mod list;
 pub mod poly;
 pub mod refusal;
 pub mod scheme;

@@ -1,3 +1,4 @@
 pub mod Tests
+pub mod Counts
 mod Elimination
 pub mod TwoCodes

@@ -3,3 +3,5 @@ pub mod Columns
 pub mod Versions
 pub mod Spans
 pub mod Lists
+pub mod UnitForms
+pub mod Figures

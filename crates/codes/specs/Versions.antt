@@ -4,9 +4,12 @@ use Prim.Native.Nat.{ℕ, zero, suc, _+_, _-_}
 use mathlib.Core.Bool.{Bool, true, false, cond, _&&_}
 use mathlib.Core.List.{List, [], _∷_}
 use lib.Dec.{ltb, leb, eqb}
+use lib.ListN.{getD}
 use Rattle.std.specs.declared.result.Result.{Result}
 use Rattle.std.specs.declared.result.Result.the-variants.{Ok, Err}
 use Rattle.tables.specs.Codewords.{parity, Plain}
+use Rattle.tables.specs.Multipliers.{entry}
+use Rattle.tables.specs.declared.table.Table.{Table}
 use Rattle.codes.specs.declared.refusal.Refusal.{Refusal}
 use Rattle.codes.specs.declared.refusal.Refusal.the-variants.{NoUnit}
 use Rattle.codes.specs.declared.version.Version.{Version}
@@ -71,9 +74,10 @@ module _ {S : Type 0} (none : S) (sum : S → S → S) (times : ℕ → S → S)
 abbrev pub is-unit : ℕ → Bool
 is-unit u = ltb 0 u && leb u 14
 
--- what an encoding call answers
-abbrev pub encoded : {S : Type 0} → S → (S → S → S) → (ℕ → S → S) → Version → (ℕ → ℕ → ℕ) → (ℕ → S) → (ℕ → S) → ℕ → Result (S × S) Refusal
-encoded none sum times v R a b u = cond (is-unit u) (Ok (units none sum times v R a b u)) (Err NoUnit)
+-- what an encoding call answers, of ten first and ten second symbols
+abbrev pub encoded : {S : Type 0} → S → (S → S → S) → (ℕ → S → S) → Version → Table → List S → List S → ℕ → Result (S × S) Refusal
+encoded none sum times v t xs ys u =
+    cond (is-unit u) (Ok (units none sum times v (entry t) (λ k. getD xs k none) (λ k. getD ys k none) u)) (Err NoUnit)
 
 -- which versions a base code admits: XOR+ needs a second row of ten ones
 abbrev pub Admits : Version → (ℕ → ℕ → ℕ) → Type 0

@@ -16,7 +16,7 @@ use tables::table::Table;
 
 // The two symbols of unit u, from the ten first symbols a and the ten second symbols b.
 pub fn encode_unit<V: Scheme, S: Symbol + Copy>(scheme: &V, a: &[S; 10], b: &[S; 10], u: u8) -> Result<(S, S), Refusal>
-    ensures { λ r. ⌜ r ≡ encoded zero sum times (version (now (scheme .entry))) (entry (table (now (scheme .entry)))) (λ k. getD (now (a .entry)) k zero) (λ k. getD (now (b .entry)) k zero) u ⌝ }
+    ensures { λ r. ⌜ r ≡ encoded zero sum times (version (now (scheme .entry))) (table (now (scheme .entry))) (now (a .entry)) (now (b .entry)) u ⌝ }
 {
     if u == 0 || u > 14 {
         return Err(Refusal::NoUnit);

@@ -3,6 +3,8 @@ pub mod base;
 pub mod cauchy;
 pub mod encode;
 pub mod fetch;
+pub mod figures;
+pub mod forms;
 pub mod list;
 pub mod poly;
 pub mod refusal;

@@ -44,10 +44,10 @@ pub after-more : (d : ℕ → ℕ) → Bytes d → (n l : ℕ) → after d (suc 
 after-more d h n l =
     dot-more bytes n (λ k. power (suc n - suc k) l) d
     ∙ ap₂ bitXor
-      (dot-same 0 bitXor gmul n _ (λ k. bitXor (power (n - suc k) (suc l)) (gmul (generator l) (power (n - suc k) 0))) d d
-        (λ k q. let e : suc n - suc k ≡ suc (n - suc k) = omega arith in ap (λ m. power m l) e) (λ k q. refl)
-      ∙ dot-mix bytes n (generator l) (λ k. power (n - suc k) (suc l)) (λ k. power (n - suc k) 0) d (generator-byte l) (λ k. power-byte (n - suc k) 0) h)
-      (let e : suc n - suc n ≡ 0 = omega arith in ap (λ m. gmul (power m l) (d n)) e)
+    (dot-same 0 bitXor gmul n _ (λ k. bitXor (power (n - suc k) (suc l)) (gmul (generator l) (power (n - suc k) 0))) d d
+    (λ k q. let e : suc n - suc k ≡ suc (n - suc k) = omega arith in ap (λ m. power m l) e) (λ k q. refl)
+    ∙ dot-mix bytes n (generator l) (λ k. power (n - suc k) (suc l)) (λ k. power (n - suc k) 0) d (generator-byte l) (λ k. power-byte (n - suc k) 0) h)
+    (let e : suc n - suc n ≡ 0 = omega arith in ap (λ m. gmul (power m l) (d n)) e)
     ∙ xor-assoc (after d n (suc l)) (gmul (generator l) (after d n 0)) (gmul (generator l) (d n))
     ∙ ap (bitXor (after d n (suc l))) (sym (gmul-r (generator l) .xors (after d n 0) (d n)))
 
@@ -63,7 +63,7 @@ after-ten d n l h ten e =
 
 -- the same, of the values that the loop holds
 pub next : (d : ℕ → ℕ) → Bytes d → (n l : ℕ) {x y r : ℕ} → x ≡ after d n (suc l) → y ≡ after d n 0 → r ≡ gmul (generator l) (bitXor y (d n))
-  → bitXor x r ≡ after d (n + 1) l
+    → bitXor x r ≡ after d (n + 1) l
 next d h n l e f g =
     ap₂ bitXor e (g ∙ ap (λ z. gmul (generator l) (bitXor z (d n))) f)
     ∙ sym (after-more d h n l) ∙ ap (λ m. after d m l) (sym (add-one n))

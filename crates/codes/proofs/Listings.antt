@@ -24,13 +24,13 @@ without-append u [] js = refl
 without-append u (i ∷ is) js = go (eqb u i) (without-append u is js)
   where
     go : (b : Bool) → without u (is ++ js) ≡ without u is ++ without u js
-      → cond b (without u (is ++ js)) (i ∷ without u (is ++ js)) ≡ cond b (without u is) (i ∷ without u is) ++ without u js
+        → cond b (without u (is ++ js)) (i ∷ without u (is ++ js)) ≡ cond b (without u is) (i ∷ without u is) ++ without u js
     go true e = e
     go false e = ap (λ ks. i ∷ ks) e
 
 -- the units from i to below j + 1
 others-more : (h u i j : ℕ) → i ≤ j
-  → map (half h) (without u (upto i (j + 1 - i))) ≡ map (half h) (without u (upto i (j - i))) ++ cond (eqb u j) [] (half h j ∷ [])
+    → map (half h) (without u (upto i (j + 1 - i))) ≡ map (half h) (without u (upto i (j - i))) ++ cond (eqb u j) [] (half h j ∷ [])
 others-more h u i j le =
     let e : j + 1 - i ≡ suc (j - i) = omega arith in
     let f : i + (j - i) ≡ j = omega arith in
@@ -45,13 +45,13 @@ others-more h u i j le =
     go false = refl
 
 pub others-taken : (h u i j : ℕ) → i ≤ j → (j ≡ u → ⊥)
-  → map (half h) (without u (upto i (j + 1 - i))) ≡ map (half h) (without u (upto i (j - i))) ++ (half h j ∷ [])
+    → map (half h) (without u (upto i (j + 1 - i))) ≡ map (half h) (without u (upto i (j - i))) ++ (half h j ∷ [])
 others-taken h u i j le n =
     others-more h u i j le
     ∙ ap (λ b. map (half h) (without u (upto i (j - i))) ++ cond b [] (half h j ∷ [])) (not-T-false (eqb u j) (λ t. n (sym (eqb→eq u j t))))
 
 pub others-left : (h u i j : ℕ) → i ≤ j → j ≡ u
-  → map (half h) (without u (upto i (j + 1 - i))) ≡ map (half h) (without u (upto i (j - i)))
+    → map (half h) (without u (upto i (j + 1 - i))) ≡ map (half h) (without u (upto i (j - i)))
 others-left h u i j le e =
     others-more h u i j le
     ∙ ap (λ b. map (half h) (without u (upto i (j - i))) ++ cond b [] (half h j ∷ [])) (T-true (eqb u j) (subst (λ (k : ℕ). T (eqb u k)) (sym e) (eqb-refl u)))
@@ -66,10 +66,10 @@ module _ (stands : ℕ → Bool) (p : ℕ) where
   none-more e = more ∙ ap (λ b. wholes p (lowest 10 stands) ++ cond b (half 1 p ∷ half 2 p ∷ []) []) e ∙ append-nil _
 
   pub whole-taken : (n : ℕ) → stands p ≡ true → n ≡ count p stands → n < 10
-    → wholes (p + 1) (lowest 10 stands) ≡ wholes p (lowest 10 stands) ++ (half 1 p ∷ half 2 p ∷ [])
+      → wholes (p + 1) (lowest 10 stands) ≡ wholes p (lowest 10 stands) ++ (half 1 p ∷ half 2 p ∷ [])
   whole-taken n s e h =
       more ∙ ap (λ b. wholes p (lowest 10 stands) ++ cond b (half 1 p ∷ half 2 p ∷ []) [])
-        (ap₂ _&&_ s (ap (λ m. ltb m 10) (sym e) ∙ T-true (ltb n 10) (lt→ltb n 10 h)))
+      (ap₂ _&&_ s (ap (λ m. ltb m 10) (sym e) ∙ T-true (ltb n 10) (lt→ltb n 10 h)))
 
   pub whole-full : (n : ℕ) → stands p ≡ true → n ≡ count p stands → 10 ≤ n → wholes (p + 1) (lowest 10 stands) ≡ wholes p (lowest 10 stands)
   whole-full n s e h =

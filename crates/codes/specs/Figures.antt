@@ -25,6 +25,7 @@ parity-bytes v t j x y = pair 11 ++ (pair 12 ++ (pair 13 ++ pair 14))
   where
     only : ℕ → ℕ → ℕ
     only z k = cond (eqb (k + 1) j) z 0
+
     pair : ℕ → List ℕ
     pair u = units 0 bitXor gmul v (entry t) (only x) (only y) u .0 ∷ units 0 bitXor gmul v (entry t) (only x) (only y) u .1 ∷ []
 

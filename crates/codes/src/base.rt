@@ -7,10 +7,10 @@ ghost use Rattle.codes.specs.Columns.{column-fits, parities, column-answer};
 ghost use Rattle.tables.specs.Multipliers.{entry, multiplier-of};
 ghost use Rattle.tables.specs.declared.table.Table.{Table as Multipliers};
 use crate::refusal::Refusal;
-use tables::table::Row;
-use tables::table::Table;
 use field::symbol::ByteSymbol;
 use field::symbol::sum_of_products;
+use tables::table::Row;
+use tables::table::Table;
 
 pub trait BaseCode {
     // The forty multipliers, which never change.

@@ -16,7 +16,9 @@ pub struct Cauchy {
 
 impl Cauchy {
     pub fn new() -> Cauchy {
-        Cauchy { table: cauchy_table() }
+        Cauchy {
+            table: cauchy_table(),
+        }
     }
 }
 

@@ -15,7 +15,12 @@ use tables::table::Row;
 use tables::table::Table;
 
 // The two symbols of unit u, from the ten first symbols a and the ten second symbols b.
-pub fn encode_unit<V: Scheme, S: Symbol + Copy>(scheme: &V, a: &[S; 10], b: &[S; 10], u: u8) -> Result<(S, S), Refusal>
+pub fn encode_unit<V: Scheme, S: Symbol + Copy>(
+    scheme: &V,
+    a: &[S; 10],
+    b: &[S; 10],
+    u: u8,
+) -> Result<(S, S), Refusal>
     ensures { λ r. ⌜ r ≡ encoded zero sum times (version (now (scheme .entry))) (table (now (scheme .entry))) (now (a .entry)) (now (b .entry)) u ⌝ }
 {
     if u == 0 || u > 14 {
@@ -29,14 +34,24 @@ pub fn encode_unit<V: Scheme, S: Symbol + Copy>(scheme: &V, a: &[S; 10], b: &[S;
 }
 
 // The two symbols of the unit of parity l, from 0.
-fn parity_unit<S: Symbol + Copy>(version: Version, table: &Table, a: &[S; 10], b: &[S; 10], l: u8) -> (S, S)
+fn parity_unit<S: Symbol + Copy>(
+    version: Version,
+    table: &Table,
+    a: &[S; 10],
+    b: &[S; 10],
+    l: u8,
+) -> (S, S)
     requires { ⌜ l < 4 ⌝ }
     ensures first { λ r. ⌜ r .0 ≡ parity-first zero sum times version (entry (now (table .entry))) (λ k. getD (now (a .entry)) k zero) (λ k. getD (now (b .entry)) k zero) l ⌝ }
     ensures second { λ r. ⌜ r .1 ≡ parity-second zero sum times version (entry (now (table .entry))) (λ k. getD (now (a .entry)) k zero) (λ k. getD (now (b .entry)) k zero) l ⌝ }
 {
     let plain = parity_symbol(table, a, l);
     let second = parity_symbol(table, b, l).sum(added(version, &table.f2, a, l));
-    let first = if mixed(version, l) { plain.sum(second) } else { plain };
+    let first = if mixed(version, l) {
+        plain.sum(second)
+    } else {
+        plain
+    };
     (first, second)
 }
 

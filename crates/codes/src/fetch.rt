@@ -12,13 +12,6 @@ use crate::list::FetchList;
 use crate::version::Version;
 
 impl FetchList {
-    // How many halves it lists.
-    pub fn len(&self) -> usize
-        ensures { λ r. ⌜ r ≡ length (listed (now (self .entry))) ⌝ }
-    {
-        self.len
-    }
-
     // The listed halves, in order.
     pub fn halves(&self) -> &[(u8, u8)]
         ensures { λ r. ⌜ now r ≡ listed (now (self .entry)) ⌝ }
@@ -30,7 +23,10 @@ impl FetchList {
         ensures items { λ r. ⌜ listed r ≡ [] ⌝ }
         ensures count { λ r. ⌜ r .len ≡ 0 ⌝ }
     {
-        FetchList { halves: [(0, 0); 20], len: 0 }
+        FetchList {
+            halves: [(0, 0); 20],
+            len: 0,
+        }
     }
 
     // One half more.
@@ -152,7 +148,11 @@ fn lowest_ten(standing: &[bool; 14]) -> FetchList
 fn long(standing: &[bool; 14]) -> FetchList
     ensures { λ r. ⌜ listed r ≡ long-list (λ p. getD (now (standing .entry)) p false) ⌝ }
 {
-    if count_standing(standing) < 10 { FetchList::new() } else { lowest_ten(standing) }
+    if count_standing(standing) < 10 {
+        FetchList::new()
+    } else {
+        lowest_ten(standing)
+    }
 }
 
 // The listed halves for unit u, where `standing` says of units 1 to 14 whether they stand:

@@ -17,7 +17,9 @@ pub struct Poly {
 
 impl Poly {
     pub fn new() -> Poly {
-        Poly { table: poly_table() }
+        Poly {
+            table: poly_table(),
+        }
     }
 }
 

@@ -9,23 +9,23 @@ use Rattle.field.specs.Space.{Space, dot}
 module _ {S : Type 0} (none : S) (sum : S → S → S) (times : ℕ → S → S) where
   -- one product more, below the others
   pub dot-down : (n k : ℕ) (r : ℕ → ℕ) (x : ℕ → S) → 0 < k → k ≤ n
-    → sum (times (r (k - 1)) (x (k - 1))) (dot none sum times (n - k) (λ i. r (k + i)) (λ i. x (k + i)))
+      → sum (times (r (k - 1)) (x (k - 1))) (dot none sum times (n - k) (λ i. r (k + i)) (λ i. x (k + i)))
       ≡ dot none sum times (n - (k - 1)) (λ i. r (k - 1 + i)) (λ i. x (k - 1 + i))
   dot-down n k r x p h =
       let more : suc (n - k) ≡ n - (k - 1) = omega arith in
       let first : k - 1 ≡ k - 1 + 0 = omega arith in
       let next : (i : ℕ) → k + i ≡ k - 1 + suc i = λ i. omega arith in
       ap₂ sum (ap (λ i. times (r i) (x i)) first)
-        (ap₂ (dot none sum times (n - k)) (λ j i. r (next i j)) (λ j i. x (next i j)))
+      (ap₂ (dot none sum times (n - k)) (λ j i. r (next i j)) (λ j i. x (next i j)))
       ∙ ap (λ m. dot none sum times m (λ i. r (k - 1 + i)) (λ i. x (k - 1 + i))) more
 
   -- the same multipliers and symbols below n
   pub dot-same : (n : ℕ) (r s : ℕ → ℕ) (x y : ℕ → S) → ((k : ℕ) → k < n → r k ≡ s k) → ((k : ℕ) → k < n → x k ≡ y k)
-    → dot none sum times n r x ≡ dot none sum times n s y
+      → dot none sum times n r x ≡ dot none sum times n s y
   dot-same zero r s x y g h = refl
   dot-same (suc n) r s x y g h =
       ap₂ sum (ap₂ times (g 0 (omega arith)) (h 0 (omega arith)))
-        (dot-same n _ _ _ _ (λ k q. g (suc k) (omega arith)) (λ k q. h (suc k) (omega arith)))
+      (dot-same n _ _ _ _ (λ k q. g (suc k) (omega arith)) (λ k q. h (suc k) (omega arith)))
 
 module _ {S : Type 0} {ok : S → Type 0} {none : S} {sum : S → S → S} {times : ℕ → S → S} (𝓢 : Space ok none sum times) where
   abbrev D : ℕ → (ℕ → ℕ) → (ℕ → S) → S
@@ -56,12 +56,12 @@ module _ {S : Type 0} {ok : S → Type 0} {none : S} {sum : S → S → S} {time
 
   -- a row with a multiple of another added
   pub dot-mix : (n f : ℕ) (s u : ℕ → ℕ) (x : ℕ → S) → f < 256 → ((k : ℕ) → u k < 256) → ((k : ℕ) → ok (x k))
-    → D n (λ k. bitXor (s k) (gmul f (u k))) x ≡ sum (D n s x) (times f (D n u x))
+      → D n (λ k. bitXor (s k) (gmul f (u k))) x ≡ sum (D n s x) (times f (D n u x))
   dot-mix zero f s u x hf hu hx = sym (ap (sum none) (times-none f hf) ∙ 𝓢 .unit none (𝓢 .ok-zero))
   dot-mix (suc n) f s u x hf hu hx =
       ap₂ sum
-        (𝓢 .left (s 0) (gmul f (u 0)) (x 0) ∙ ap (sum (times (s 0) (x 0))) (𝓢 .twice f (u 0) (x 0) hf (hu 0) (hx 0)))
-        (dot-mix n f (λ k. s (suc k)) (λ k. u (suc k)) (λ k. x (suc k)) hf (λ k. hu (suc k)) (λ k. hx (suc k)))
+      (𝓢 .left (s 0) (gmul f (u 0)) (x 0) ∙ ap (sum (times (s 0) (x 0))) (𝓢 .twice f (u 0) (x 0) hf (hu 0) (hx 0)))
+      (dot-mix n f (λ k. s (suc k)) (λ k. u (suc k)) (λ k. x (suc k)) hf (λ k. hu (suc k)) (λ k. hx (suc k)))
       ∙ swap4 _ _ _ _
       ∙ ap (sum _) (sym (𝓢 .right f _ _))
 

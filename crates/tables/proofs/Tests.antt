@@ -19,4 +19,3 @@ low x y p h = ap (λ b. cond b x y) (T-true (ltb p 10) (lt→ltb p 10 h))
 
 pub high : {A : Type 0} (x y : A) (p : ℕ) → 10 ≤ p → cond (ltb p 10) x y ≡ y
 high x y p h = ap (λ b. cond b x y) (not-T-false (ltb p 10) (λ t. let q : p < 10 = ltb→lt p 10 t in omega arith))
-

@@ -48,8 +48,8 @@ field-laws = record {
   over-l = λ a b c. ap (λ z. gmul z (c % 256)) (xor-mod a b 8) ∙ gmul-l (c % 256) .xors (a % 256) (b % 256);
   over-r = λ a b c. ap (gmul (a % 256)) (xor-mod b c 8) ∙ gmul-r (a % 256) .xors (b % 256) (c % 256);
   assoc = λ a b c.
-    ap (λ z. gmul z (c % 256)) (same8 _ (gm-byte a b)) ∙ gmul-assoc (a % 256) (b % 256) (c % 256) (m8 a) (m8 b) (m8 c)
-    ∙ ap (gmul (a % 256)) (sym (same8 _ (gm-byte b c)));
+      ap (λ z. gmul z (c % 256)) (same8 _ (gm-byte a b)) ∙ gmul-assoc (a % 256) (b % 256) (c % 256) (m8 a) (m8 b) (m8 c)
+      ∙ ap (gmul (a % 256)) (sym (same8 _ (gm-byte b c)));
   comm = λ a b. gmul-comm (a % 256) (b % 256) (m8 a) (m8 b);
   one = λ a h. gm-is 1 a (lit< tt) h ∙ gmul-one-l a h;
   byte = gm-byte;
@@ -64,9 +64,11 @@ law-gmul : (R : ℕ → ℕ → ℕ) → ((l k : ℕ) → R l k < 256) → Mds b
 law-gmul R hR mds chosen v hv c =
     let u = mds chosen v hv c in
     record {
-      one = u .one; bytes = u .bytes;
+      one = u .one;
+      bytes = u .bytes;
       fits = record { there = u .fits .there; sums = λ l h q. sym (dot-gm 10 (R l) (u .one) (hR l) (u .bytes)) ∙ u .fits .sums l h q };
-      only = λ d hd f. u .only d hd (record { there = f .there; sums = λ l h q. dot-gm 10 (R l) d (hR l) hd ∙ f .sums l h q }) }
+      only = λ d hd f. u .only d hd (record { there = f .there; sums = λ l h q. dot-gm 10 (R l) d (hR l) hd ∙ f .sums l h q });
+    }
 
 cauchy-tested : T (regular bitXor gm 10 4 (entry cauchy))
 unfolding cauchy gm gmul inverse
@@ -81,6 +83,7 @@ column R mds chosen v hv c = record { one = u .one; bytes = u .bytes; fits = fit
   where
     u : Unique bitXor gmul 4 10 R (λ l. chosen (10 + l)) (λ l. v (10 + l)) chosen v
     u = mds chosen v hv c
+
     fits : (p : ℕ) → p < 14 → chosen p ≡ true → codeword 0 bitXor gmul R (u .one) p ≡ v p
     fits p h c = go (ltb p 10) refl
       where
@@ -90,14 +93,16 @@ column R mds chosen v hv c = record { one = u .one; bytes = u .bytes; fits = fit
             let q : 10 ≤ p = nltb→le p 10 (subst (λ (b : Bool). T (not b)) (sym e) tt) in
             let same : 10 + (p - 10) ≡ p = omega arith in
             high _ _ p q ∙ u .fits .sums (p - 10) (omega arith) (ap chosen same ∙ c) ∙ ap v same
+
     only : (d : ℕ → ℕ) → Bytes d → ((p : ℕ) → p < 14 → chosen p ≡ true → codeword 0 bitXor gmul R d p ≡ v p) → (k : ℕ) → k < 10 → d k ≡ u .one k
     only d hd f =
         u .only d hd
-          (record {
-            there = λ k h c. sym (low _ _ k h) ∙ f k (omega arith) c;
-            sums = λ l h c.
+        (record {
+          there = λ k h c. sym (low _ _ k h) ∙ f k (omega arith) c;
+          sums = λ l h c.
               let same : (10 + l) - 10 ≡ l = omega arith in
-              ap (λ j. dot 0 bitXor gmul 10 (R j) d) (sym same) ∙ sym (high _ _ (10 + l) (omega arith)) ∙ f (10 + l) (omega arith) c })
+              ap (λ j. dot 0 bitXor gmul 10 (R j) d) (sym same) ∙ sym (high _ _ (10 + l) (omega arith)) ∙ f (10 + l) (omega arith) c;
+        })
 
 -- the entries of a table, from tests of its rows
 small-row : List ℕ → Bool

@@ -24,7 +24,11 @@ impl Row {
     pub fn multiplier(&self, j: u8) -> u8
         ensures { λ r. ⌜ r ≡ multiplier-of (λ _ k. getD (now (self .entry) .at) k 0) 1 j ⌝ }
     {
-        if j == 0 || j > 10 { 0 } else { self.at[j as usize - 1] }
+        if j == 0 || j > 10 {
+            0
+        } else {
+            self.at[j as usize - 1]
+        }
     }
 }
 

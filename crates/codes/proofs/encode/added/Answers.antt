@@ -32,11 +32,12 @@ loop-j-again g c =
     let j = c .loop-j .j in
     let f = λ (k : ℕ). share (s .zero) (s .sum) (s .times) (c .args .version) (λ _ i. getD (c .args .second .now .at) i 0) k (getD (c .args .a .now) k (s .zero)) in
     let h : c .share-of .result ≡ share (s .zero) (s .sum) (s .times) (c .args .version) (λ _ i. getD (c .args .second .now .at) i 0) (j - 1) (getD (c .args .a .now) (j - 1) (c .index-a-j .result)) = c .share-of .ensures in
-    let x = getD-default (c .args .a .now) (j - 1) (c .index-a-j .result) (s .zero) (omega arith) in
-    (omega arith,
+    let x = getD-default (c .args .a .now) (j - 1) (c .index-a-j .result) (s .zero) (omega arith) in (
+      omega arith,
       c .sum-total .ensures
-      ∙ ap₂ (s .sum) (h ∙ ap (share (s .zero) (s .sum) (s .times) (c .args .version) (λ _ i. getD (c .args .second .now .at) i 0) (j - 1)) x) (c .loop-j .inv .1)
-      ∙ down (s .zero) (s .sum) f j (c .span-from .result .1) (omega arith) (omega arith))
+          ∙ ap₂ (s .sum) (h ∙ ap (share (s .zero) (s .sum) (s .times) (c .args .version) (λ _ i. getD (c .args .second .now .at) i 0) (j - 1)) x) (c .loop-j .inv .1)
+          ∙ down (s .zero) (s .sum) f j (c .span-from .result .1) (omega arith) (omega arith),
+    )
 
 pub returns : need.returns
 returns g c =

@@ -12,8 +12,8 @@ loop-p-again c =
     let t = c .loop-p in
     let f : ℕ → Bool = λ p. getD (c .args .standing .now) p false in
     elim (c .if-standing-p .came) [
-      then-standing-p w ↦
-        (omega (arith, w .seen-is), w .seen-is ∙ ap (λ n. n + 1) (t .inv .1) ∙ sym (count-yes (t .p) f (w .if-standing-p .taken)))
-    | else-standing-p w ↦
-        (omega (arith, w .seen-is), w .seen-is ∙ t .inv .1 ∙ sym (count-no (t .p) f (w .if-standing-p .left)))
+      | then-standing-p w ↦
+          (omega (arith, w .seen-is), w .seen-is ∙ ap (λ n. n + 1) (t .inv .1) ∙ sym (count-yes (t .p) f (w .if-standing-p .taken)))
+      | else-standing-p w ↦
+          (omega (arith, w .seen-is), w .seen-is ∙ t .inv .1 ∙ sym (count-no (t .p) f (w .if-standing-p .left)))
     ]

@@ -16,12 +16,16 @@ loop-j-again c =
     let i = c .args .from in
     let before = listed (c .args .self .now) in
     elim (c .if-j-except .came) [
-      then-j-except w ↦
-        (omega arith, omega (arith, w .push .ensures .count, ap (λ l. l .len) (w .self-is)),
-         ap listed (w .self-is) ∙ w .push .ensures .items ∙ ap (λ xs. xs ++ (half h (t .j) ∷ [])) (t .inv .2)
-         ∙ append-assoc before (map (half h) (without u (upto i (t .j - i)))) (half h (t .j) ∷ [])
-         ∙ ap (λ xs. before ++ xs) (sym (others-taken h u i (t .j) (t .inv .0) (w .if-j-except .taken))))
-    | else-j-except w ↦
-        (omega arith, omega (arith, ap (λ l. l .len) (w .self-is)),
-         ap listed (w .self-is) ∙ t .inv .2 ∙ ap (λ xs. before ++ xs) (sym (others-left h u i (t .j) (t .inv .0) (w .if-j-except .left))))
+      | then-j-except w ↦ (
+        omega arith,
+        omega (arith, w .push .ensures .count, ap (λ l. l .len) (w .self-is)),
+        ap listed (w .self-is) ∙ w .push .ensures .items ∙ ap (λ xs. xs ++ (half h (t .j) ∷ [])) (t .inv .2)
+            ∙ append-assoc before (map (half h) (without u (upto i (t .j - i)))) (half h (t .j) ∷ [])
+            ∙ ap (λ xs. before ++ xs) (sym (others-taken h u i (t .j) (t .inv .0) (w .if-j-except .taken))),
+      )
+      | else-j-except w ↦ (
+        omega arith,
+        omega (arith, ap (λ l. l .len) (w .self-is)),
+        ap listed (w .self-is) ∙ t .inv .2 ∙ ap (λ xs. before ++ xs) (sym (others-left h u i (t .j) (t .inv .0) (w .if-j-except .left))),
+      )
     ]

@@ -10,5 +10,6 @@ returns c =
     let y = half 2 (c .args .p) in
     record {
       items = c .push-2 .ensures .items ∙ ap (λ t. t ++ (y ∷ [])) (c .push .ensures .items)
-        ∙ append-assoc (listed (c .args .self .now)) (x ∷ []) (y ∷ []);
-      count = omega (arith, c .push-2 .ensures .count, c .push .ensures .count) }
+          ∙ append-assoc (listed (c .args .self .now)) (x ∷ []) (y ∷ []);
+      count = omega (arith, c .push-2 .ensures .count, c .push .ensures .count);
+    }

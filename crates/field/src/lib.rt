@@ -6,6 +6,8 @@ ghost use Rattle.field.specs.Laws.{Field};
 pub mod form;
 pub mod symbol;
 mod tables;
+#[cfg(test)]
+mod tests;
 
 use tables::exp_opposite;
 use tables::exp_sum;

@@ -20,8 +20,14 @@ use show::show_scheme;
 use std::io;
 
 fn main(rt: LibcRuntime) -> io::Result<()> {
-    println!(rt, "One set of ten data units, two bytes in each half, encoded under every version and code.")?;
-    println!(rt, "A unit is shown as its first half and its second half; a half to fetch as unit.half.")?;
+    println!(
+        rt,
+        "One set of ten data units, two bytes in each half, encoded under every version and code."
+    )?;
+    println!(
+        rt,
+        "A unit is shown as its first half and its second half; a half to fetch as unit.half."
+    )?;
     show_scheme(&rt, "RS CAUCHY", &Rs(Cauchy::new()))?;
     show_scheme(&rt, "RS POLY", &Rs(Poly::new()))?;
     show_scheme(&rt, "XOR CAUCHY", &Xor(Cauchy::new()))?;

@@ -21,7 +21,10 @@ pub fn show_scheme<V: Scheme>(rt: &impl Print, name: &str, scheme: &V) -> io::Re
         show_list(rt, u, &list)?;
         total = total.saturating_add(list.halves().len());
     }
-    println!(rt, "all fourteen units lost in turn: {total} halves, Reed-Solomon 280")
+    println!(
+        rt,
+        "all fourteen units lost in turn: {total} halves, Reed-Solomon 280"
+    )
 }
 
 // One unit: the two bytes of its first half, and those of its second.

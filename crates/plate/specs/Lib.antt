@@ -1,0 +1,4 @@
+pub mod Requests
+pub mod Pages
+pub mod Printed
+pub mod Input

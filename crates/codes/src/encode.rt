@@ -1,6 +1,8 @@
 // Encoding: the two symbols of a unit at one byte position, of any kind of symbol.
+ghost use mathlib.Core.Bool.{cond};
 ghost use mathlib.Core.Path.{_≡_};
 ghost use Prim.Native.Nat.{_+_, _-_, _<_};
+ghost use lib.Dec.{ltb};
 ghost use lib.ListN.{getD};
 ghost use Rattle.tables.specs.Codewords.{parity};
 ghost use Rattle.tables.specs.Multipliers.{entry};
@@ -11,7 +13,6 @@ use crate::scheme::Scheme;
 use crate::version::Version;
 use field::symbol::Symbol;
 use field::symbol::sum_of_products;
-use tables::table::Row;
 use tables::table::Table;
 
 // The two symbols of unit u, from the ten first symbols a and the ten second symbols b.
@@ -23,6 +24,19 @@ pub fn encode_unit<V: Scheme, S: Symbol + Copy>(
 ) -> Result<(S, S), Refusal>
     ensures { λ r. ⌜ r ≡ encoded zero sum times (version (now (scheme .entry))) (table (now (scheme .entry))) (now (a .entry)) (now (b .entry)) u ⌝ }
 {
+    encode_with(scheme.version(), &scheme.table(), a, b, u)
+}
+
+// The same from a version and the forty multipliers.
+pub fn encode_with<S: Symbol + Copy>(
+    version: Version,
+    table: &Table,
+    a: &[S; 10],
+    b: &[S; 10],
+    u: u8,
+) -> Result<(S, S), Refusal>
+    ensures { λ r. ⌜ r ≡ encoded zero sum times version (now (table .entry)) (now (a .entry)) (now (b .entry)) u ⌝ }
+{
     if u == 0 || u > 14 {
         return Err(Refusal::NoUnit);
     }
@@ -30,7 +44,7 @@ pub fn encode_unit<V: Scheme, S: Symbol + Copy>(
         let k = u as usize - 1;
         return Ok((a[k], b[k]));
     }
-    Ok(parity_unit(scheme.version(), &scheme.table(), a, b, u - 11))
+    Ok(parity_unit(version, table, a, b, u - 11))
 }
 
 // The two symbols of the unit of parity l, from 0.
@@ -46,7 +60,7 @@ fn parity_unit<S: Symbol + Copy>(
     ensures second { λ r. ⌜ r .1 ≡ parity-second zero sum times version (entry (now (table .entry))) (λ k. getD (now (a .entry)) k zero) (λ k. getD (now (b .entry)) k zero) l ⌝ }
 {
     let plain = parity_symbol(table, a, l);
-    let second = parity_symbol(table, b, l).sum(added(version, &table.f2, a, l));
+    let second = parity_symbol(table, b, l).sum(added(version, table, a, l));
     let first = if mixed(version, l) {
         plain.sum(second)
     } else {
@@ -55,21 +69,21 @@ fn parity_unit<S: Symbol + Copy>(
     (first, second)
 }
 
-// Parity l of ten symbols.
-fn parity_symbol<S: Symbol + Copy>(table: &Table, x: &[S; 10], l: u8) -> S
-    requires { ⌜ l < 4 ⌝ }
-    ensures { λ r. ⌜ r ≡ parity zero sum times (entry (now (table .entry))) l (λ k. getD (now (x .entry)) k zero) ⌝ }
+// Parity l of ten symbols, from 0; zero where there is no such parity.
+pub fn parity_symbol<S: Symbol + Copy>(table: &Table, x: &[S; 10], l: u8) -> S
+    ensures { λ r. ⌜ r ≡ cond (ltb l 4) (parity zero sum times (entry (now (table .entry))) l (λ k. getD (now (x .entry)) k zero)) zero ⌝ }
 {
     match l {
         0 => sum_of_products(&table.f1.at, x),
         1 => sum_of_products(&table.f2.at, x),
         2 => sum_of_products(&table.f3.at, x),
-        _ => sum_of_products(&table.f4.at, x),
+        3 => sum_of_products(&table.f4.at, x),
+        _ => S::zero(),
     }
 }
 
-// Whether the first symbol of parity l has the second added.
-fn mixed(version: Version, l: u8) -> bool
+// Whether the first symbol of parity l, from 0, has the second added.
+pub fn mixed(version: Version, l: u8) -> bool
     ensures { λ r. ⌜ r ≡ has-second version l ⌝ }
 {
     match version {
@@ -80,35 +94,33 @@ fn mixed(version: Version, l: u8) -> bool
     }
 }
 
-// What the second symbol of parity l has of the first symbols; `second` is the table's second row.
-fn added<S: Symbol + Copy>(version: Version, second: &Row, a: &[S; 10], l: u8) -> S
-    requires { ⌜ l < 4 ⌝ }
-    ensures { λ r. ⌜ r ≡ piggyback zero sum times version (λ _ k. getD (now (second .entry) .at) k 0) (λ k. getD (now (a .entry)) k zero) l ⌝ }
+// What the second symbol of parity l, from 0, has of the first symbols.
+pub fn added<S: Symbol + Copy>(version: Version, table: &Table, a: &[S; 10], l: u8) -> S
+    ensures { λ r. ⌜ r ≡ piggyback zero sum times version (entry (now (table .entry))) (λ k. getD (now (a .entry)) k zero) l ⌝ }
 {
     let (from, to) = span(version, l);
     let mut total = S::zero();
     for j in (from..to).rev() {
-        total = share_of(version, second, j, a[j]).sum(total);
+        total = share_of(version, table, j, a[j]).sum(total);
     }
     total
 }
 
 // What a member of a group adds to a second symbol.
-fn share_of<S: Symbol + Copy>(version: Version, second: &Row, j: usize, x: S) -> S
+fn share_of<S: Symbol + Copy>(version: Version, table: &Table, j: usize, x: S) -> S
     requires { ⌜ j < 10 ⌝ }
-    ensures { λ r. ⌜ r ≡ share zero sum times version (λ _ k. getD (now (second .entry) .at) k 0) j x ⌝ }
+    ensures { λ r. ⌜ r ≡ share zero sum times version (entry (now (table .entry))) j x ⌝ }
 {
     match version {
         Version::Rs => x,
         Version::Xor => x,
         Version::XorPlus => x,
-        Version::NonXor => x.times(second.at[j]),
+        Version::NonXor => x.times(table.f2.at[j]),
     }
 }
 
 // The group of parity l: the positions from the first number to below the second.
 pub(crate) fn span(version: Version, l: u8) -> (usize, usize)
-    requires { ⌜ l < 4 ⌝ }
     ensures { λ r. ⌜ Run version l (r .0) (r .1) ⌝ }
 {
     let end = match version {
@@ -118,9 +130,9 @@ pub(crate) fn span(version: Version, l: u8) -> (usize, usize)
         Version::NonXor => 9,
     };
     match l {
-        0 => (0, 0),
         1 => (0, 3),
         2 => (3, 6),
-        _ => (6, end),
+        3 => (6, end),
+        _ => (0, 0),
     }
 }

@@ -81,8 +81,7 @@ impl FetchList {
 }
 
 // The parity whose group has the data position u; 0 where none has.
-fn home(version: Version, u: usize) -> u8
-    requires { ⌜ u < 10 ⌝ }
+pub fn home(version: Version, u: usize) -> u8
     ensures value { λ r. ⌜ r ≡ home-of version u ⌝ }
     ensures bound { λ r. ⌜ r < 4 ⌝ }
 {

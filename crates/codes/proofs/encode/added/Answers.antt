@@ -4,7 +4,7 @@ use Prim.Native.Nat.{ℕ, suc, zero, _≤_, _<_, _-_}
 use native.Mathlib.Omega.{arith}
 use lib.ListN.{getD}
 use Rattle.std.proofs.shelf.Lists.{getD-default}
-use Rattle.tables.specs.Multipliers.{upto}
+use Rattle.tables.specs.Multipliers.{entry, upto}
 use Rattle.codes.specs.Spans.{Run}
 use Rattle.codes.specs.Versions.{over, share}
 use Rattle.codes.proofs.encode.added.Needs as need
@@ -23,26 +23,26 @@ module _ {S : Type 0} (none : S) (sum : S → S → S) (f : ℕ → S) where
 pub loop-j-holds : need.loop-j-holds
 loop-j-holds g c =
     let s = g .S·Symbol in
-    let f = λ (k : ℕ). share (s .zero) (s .sum) (s .times) (c .args .version) (λ _ i. getD (c .args .second .now .at) i 0) k (getD (c .args .a .now) k (s .zero)) in
+    let f = λ (k : ℕ). share (s .zero) (s .sum) (s .times) (c .args .version) (entry (c .args .table .now)) k (getD (c .args .a .now) k (s .zero)) in
     (c .span-from .ensures .rise, c .zero-total .ensures ∙ start (s .zero) (s .sum) f (c .span-from .result .1))
 
 pub loop-j-again : need.loop-j-again
 loop-j-again g c =
     let s = g .S·Symbol in
     let j = c .loop-j .j in
-    let f = λ (k : ℕ). share (s .zero) (s .sum) (s .times) (c .args .version) (λ _ i. getD (c .args .second .now .at) i 0) k (getD (c .args .a .now) k (s .zero)) in
-    let h : c .share-of .result ≡ share (s .zero) (s .sum) (s .times) (c .args .version) (λ _ i. getD (c .args .second .now .at) i 0) (j - 1) (getD (c .args .a .now) (j - 1) (c .index-a-j .result)) = c .share-of .ensures in
+    let f = λ (k : ℕ). share (s .zero) (s .sum) (s .times) (c .args .version) (entry (c .args .table .now)) k (getD (c .args .a .now) k (s .zero)) in
+    let h : c .share-of .result ≡ share (s .zero) (s .sum) (s .times) (c .args .version) (entry (c .args .table .now)) (j - 1) (getD (c .args .a .now) (j - 1) (c .index-a-j .result)) = c .share-of .ensures in
     let x = getD-default (c .args .a .now) (j - 1) (c .index-a-j .result) (s .zero) (omega arith) in (
       omega arith,
       c .sum-total .ensures
-          ∙ ap₂ (s .sum) (h ∙ ap (share (s .zero) (s .sum) (s .times) (c .args .version) (λ _ i. getD (c .args .second .now .at) i 0) (j - 1)) x) (c .loop-j .inv .1)
+          ∙ ap₂ (s .sum) (h ∙ ap (share (s .zero) (s .sum) (s .times) (c .args .version) (entry (c .args .table .now)) (j - 1)) x) (c .loop-j .inv .1)
           ∙ down (s .zero) (s .sum) f j (c .span-from .result .1) (omega arith) (omega arith),
     )
 
 pub returns : need.returns
 returns g c =
     let s = g .S·Symbol in
-    let f = λ (k : ℕ). share (s .zero) (s .sum) (s .times) (c .args .version) (λ _ i. getD (c .args .second .now .at) i 0) k (getD (c .args .a .now) k (s .zero)) in
+    let f = λ (k : ℕ). share (s .zero) (s .sum) (s .times) (c .args .version) (entry (c .args .table .now)) k (getD (c .args .a .now) k (s .zero)) in
     let e : c .loop-j .j ≡ c .span-from .result .0 = omega arith in
     c .loop-j .inv .1
     ∙ ap (λ i. over (s .zero) (s .sum) (upto i (c .span-from .result .1 - i)) f) e

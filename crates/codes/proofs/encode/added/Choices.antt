@@ -1,11 +1,11 @@
 use mathlib.Core.Path.{_≡_}
 use Prim.Native.Nat.{_≤_, _-_}
 use lib.ListN.{getD}
-use Rattle.tables.specs.Multipliers.{upto}
+use Rattle.tables.specs.Multipliers.{entry, upto}
 use Rattle.codes.specs.Versions.{over, share}
 use Rattle.codes.proofs.encode.added.Given as given
 
 abbrev pub Inv-loop-j : given.InvT-loop-j
 Inv-loop-j g l =
     let s = g .S·Symbol in
-    (l .from ≤ l .j) × (l .total ≡ over (s .zero) (s .sum) (upto (l .j) (l .to - l .j)) (λ k. share (s .zero) (s .sum) (s .times) (l .version) (λ _ i. getD (l .second .at) i 0) k (getD (l .a) k (s .zero))))
+    (l .from ≤ l .j) × (l .total ≡ over (s .zero) (s .sum) (upto (l .j) (l .to - l .j)) (λ k. share (s .zero) (s .sum) (s .times) (l .version) (entry (l .table)) k (getD (l .a) k (s .zero))))

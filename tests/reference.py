@@ -115,6 +115,7 @@ def walkthrough():
     out = []
     out.append("One set of ten data units, two bytes in each half, encoded under every version and code.")
     out.append("A unit is shown as its first half and its second half; a half to fetch as unit.half.")
+    out.append("Worked figures that are proved of the definitions: 11.")
     for version, code in SCHEMES:
         out.append("")
         out.append(f"{version} {code}")

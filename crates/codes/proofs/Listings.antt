@@ -12,8 +12,9 @@ use Rattle.tables.specs.Codewords.{count}
 use Rattle.tables.specs.Multipliers.{upto}
 use Rattle.tables.proofs.Tests.{T-true, not-T-false}
 use Rattle.codes.specs.Lists.{half, without, wholes, lowest, short-end}
-use Rattle.codes.specs.Versions.{group}
+use Rattle.codes.specs.Versions.{group, groups}
 use Rattle.codes.specs.declared.version.Version.{Version}
+use Rattle.codes.specs.declared.version.Version.the-variants.{Rs, Xor, XorPlus, NonXor}
 
 upto-more : (i n : ℕ) → upto i (suc n) ≡ upto i n ++ ((i + n) ∷ [])
 upto-more i zero = ap (λ k. k ∷ []) (sym (add-zero i))
@@ -84,3 +85,17 @@ end-group v u zero n = absurd (n refl)
 end-group v u (suc l) n =
     let e : 11 + suc l ≡ 11 + l + 1 = omega arith in
     ap (λ k. (k, 2) ∷ map (half 1) (without u (group v (suc l)))) e
+
+-- no group has a position 10
+rows-no-tenth : (last : List ℕ) → without 10 last ≡ last → (l : ℕ) → without 10 (groups last l) ≡ groups last l
+rows-no-tenth last e zero = refl
+rows-no-tenth last e (suc zero) = refl
+rows-no-tenth last e (suc (suc zero)) = refl
+rows-no-tenth last e (suc (suc (suc zero))) = e
+rows-no-tenth last e (suc (suc (suc (suc l)))) = refl
+
+pub no-tenth : (v : Version) (l : ℕ) → without 10 (group v l) ≡ group v l
+no-tenth Rs l = refl
+no-tenth Xor l = rows-no-tenth (6 ∷ 7 ∷ 8 ∷ 9 ∷ []) refl l
+no-tenth XorPlus l = rows-no-tenth (6 ∷ 7 ∷ 8 ∷ []) refl l
+no-tenth NonXor l = rows-no-tenth (6 ∷ 7 ∷ 8 ∷ []) refl l

@@ -4,4 +4,3 @@ pub mod Versions
 pub mod Spans
 pub mod Lists
 pub mod UnitForms
-pub mod Figures

@@ -7,7 +7,8 @@ ghost use lib.ListN.{getD};
 ghost use Rattle.tables.specs.Codewords.{parity};
 ghost use Rattle.tables.specs.Multipliers.{entry};
 ghost use Rattle.codes.specs.Spans.{Run};
-ghost use Rattle.codes.specs.Versions.{mixed as has-second, share, piggyback, parity-first, parity-second, encoded};
+ghost use Rattle.codes.specs.Lists.{without};
+ghost use Rattle.codes.specs.Versions.{mixed as has-second, group, over, share, piggyback, parity-first, parity-second, encoded};
 use crate::refusal::Refusal;
 use crate::scheme::Scheme;
 use crate::version::Version;
@@ -98,10 +99,25 @@ pub fn mixed(version: Version, l: u8) -> bool
 pub fn added<S: Symbol + Copy>(version: Version, table: &Table, a: &[S; 10], l: u8) -> S
     ensures { λ r. ⌜ r ≡ piggyback zero sum times version (entry (now (table .entry))) (λ k. getD (now (a .entry)) k zero) l ⌝ }
 {
+    added_without(version, table, a, l, 10)
+}
+
+// The same without the share of the data position u.
+pub fn added_without<S: Symbol + Copy>(
+    version: Version,
+    table: &Table,
+    a: &[S; 10],
+    l: u8,
+    u: usize,
+) -> S
+    ensures { λ r. ⌜ r ≡ over zero sum (without u (group version l)) (λ j. share zero sum times version (entry (now (table .entry))) j (getD (now (a .entry)) j zero)) ⌝ }
+{
     let (from, to) = span(version, l);
     let mut total = S::zero();
     for j in (from..to).rev() {
-        total = share_of(version, table, j, a[j]).sum(total);
+        if j != u {
+            total = share_of(version, table, j, a[j]).sum(total);
+        }
     }
     total
 }

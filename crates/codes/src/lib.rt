@@ -3,7 +3,6 @@ pub mod base;
 pub mod cauchy;
 pub mod encode;
 pub mod fetch;
-pub mod figures;
 pub mod forms;
 pub mod list;
 pub mod poly;

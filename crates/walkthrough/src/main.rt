@@ -16,6 +16,7 @@ use codes::scheme::Xor;
 use codes::scheme::XorPlus;
 use codes::scheme::XorPlusScheme;
 use codes::scheme::XorScheme;
+use figures::figure_count;
 use show::show_scheme;
 use std::io;
 
@@ -27,6 +28,11 @@ fn main(rt: LibcRuntime) -> io::Result<()> {
     println!(
         rt,
         "A unit is shown as its first half and its second half; a half to fetch as unit.half."
+    )?;
+    println!(
+        rt,
+        "Worked figures that are proved of the definitions: {}.",
+        figure_count()
     )?;
     show_scheme(&rt, "RS CAUCHY", &Rs(Cauchy::new()))?;
     show_scheme(&rt, "RS POLY", &Rs(Poly::new()))?;

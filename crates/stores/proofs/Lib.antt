@@ -1,0 +1,5 @@
+pub mod Positions
+pub mod Laying
+pub mod Stores
+pub mod AreaCalls
+pub mod ShelfCalls

@@ -1,0 +1,9 @@
+pub mod Refusals
+pub mod Model
+pub mod Calls
+pub mod Layout
+pub mod Area
+pub mod Shelves
+pub mod Inside
+pub mod Meaning
+pub mod Bounds

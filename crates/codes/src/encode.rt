@@ -102,11 +102,11 @@ pub fn added<S: Symbol + Copy>(version: Version, table: &Table, a: &[S; 10], l: 
     added_without(version, table, a, l, 10)
 }
 
-// The same without the share of the data position u.
+// The same without the share of the data position u; a symbol that the slice lacks counts as zero.
 pub fn added_without<S: Symbol + Copy>(
     version: Version,
     table: &Table,
-    a: &[S; 10],
+    a: &[S],
     l: u8,
     u: usize,
 ) -> S
@@ -116,10 +116,17 @@ pub fn added_without<S: Symbol + Copy>(
     let mut total = S::zero();
     for j in (from..to).rev() {
         if j != u {
-            total = share_of(version, table, j, a[j]).sum(total);
+            total = share_of(version, table, j, symbol_at(a, j)).sum(total);
         }
     }
     total
+}
+
+// The symbol at a position, zero past the end.
+fn symbol_at<S: Symbol + Copy>(a: &[S], j: usize) -> S
+    ensures { λ r. ⌜ r ≡ getD (now (a .entry)) j zero ⌝ }
+{
+    if j < a.len() { a[j] } else { S::zero() }
 }
 
 // What a member of a group adds to a second symbol.

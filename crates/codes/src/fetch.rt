@@ -6,7 +6,7 @@ ghost use Prim.Native.Nat.{_+_, _-_, _<_, _≤_};
 ghost use lib.ListN.{length, getD};
 ghost use Rattle.tables.specs.Codewords.{count};
 ghost use Rattle.tables.specs.Multipliers.{upto};
-ghost use Rattle.codes.specs.Lists.{listed, without, wholes, half as half-of, lowest, home as home-of, short-end, short-list, fetch-list as fetch-of, has-short as short-in, listed-at, long-list};
+ghost use Rattle.codes.specs.Lists.{listed, without, wholes, half as half-of, lowest, home as home-of, short-end, short-list, fetch-list as fetch-of, has-short as short-in, listed-at, long-list, is-short as short-at};
 use crate::encode::span;
 use crate::list::FetchList;
 use crate::version::Version;
@@ -114,7 +114,7 @@ fn short(version: Version, u: usize) -> FetchList
 }
 
 // How many units stand.
-fn count_standing(standing: &[bool; 14]) -> usize
+pub fn count_standing(standing: &[bool; 14]) -> usize
     ensures { λ r. ⌜ r ≡ count 14 (λ p. getD (now (standing .entry)) p false) ⌝ }
 {
     let mut seen = 0usize;
@@ -170,11 +170,18 @@ pub fn fetch_list(version: Version, standing: &[bool; 14], u: u8) -> FetchList
 fn missing_list(version: Version, standing: &[bool; 14], p: usize) -> FetchList
     ensures { λ r. ⌜ listed r ≡ listed-at version (λ p. getD (now (standing .entry)) p false) p ⌝ }
 {
-    if has_short(version) && p < 10 && count_standing(standing) == 13 {
+    if p < 10 && is_short(version, standing, p) {
         short(version, p)
     } else {
         long(standing)
     }
+}
+
+// Whether the missing unit at position p has a short list.
+pub fn is_short(version: Version, standing: &[bool; 14], p: usize) -> bool
+    ensures { λ r. ⌜ r ≡ short-at version (λ q. getD (now (standing .entry)) q false) p ⌝ }
+{
+    has_short(version) && p < 10 && count_standing(standing) == 13
 }
 
 fn has_short(version: Version) -> bool

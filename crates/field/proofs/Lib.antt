@@ -5,3 +5,4 @@ mod Exponents
 mod Entries
 pub mod BytesSpace
 pub mod Dots
+pub mod DotSums

@@ -3,8 +3,9 @@ ghost use mathlib.Core.Path.{_≡_};
 ghost use mathlib.Core.List.{map};
 ghost use lib.Bits.{bitXor};
 ghost use lib.Lanes.{zip2};
+ghost use lib.ListN.{length};
 ghost use Rattle.field.specs.Arithmetic.{gmul};
-ghost use Rattle.field.specs.Forms.{form-ok, form-zero, form-sum, form-times, form-single};
+ghost use Rattle.field.specs.Forms.{Twenty, form-ok, form-zero, form-sum, form-times, form-single};
 use crate::symbol::Symbol;
 
 // A row of twenty bytes: the multipliers of a1..a10 and then of b1..b10.
@@ -50,6 +51,19 @@ pub impl Symbol for Form as FormSymbol {
             at: scale_row(c, &self.at),
         }
     }
+
+    fn held(self) -> Form {
+        twenty_bytes(&self.at);
+        self
+    }
+}
+
+// Does nothing: its clause says what is known of every row of twenty bytes.
+fn twenty_bytes(at: &[u8])
+    requires { ⌜ length (now at) ≡ 20 ⌝ }
+    ensures { λ _. ⌜ Twenty (now (at .entry)) ⌝ }
+{
+    let _first = at[0];
 }
 
 // The sum of two rows, byte by byte.

@@ -27,6 +27,11 @@ pub trait Symbol: Sized {
 
     fn times(self, c: u8) -> Self
         ensures { λ r. ⌜ r ≡ times c self ⌝ };
+
+    // The symbol itself, which is one that code holds.
+    fn held(self) -> Self
+        ensures same { λ r. ⌜ r ≡ self ⌝ }
+        ensures fine { λ _. ⌜ ok self ⌝ };
 }
 
 pub impl Symbol for u8 as ByteSymbol {
@@ -48,6 +53,10 @@ pub impl Symbol for u8 as ByteSymbol {
 
     fn times(self, c: u8) -> u8 {
         crate::mul(c, self)
+    }
+
+    fn held(self) -> u8 {
+        self
     }
 }
 

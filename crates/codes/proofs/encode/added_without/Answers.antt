@@ -5,7 +5,6 @@ use Prim.Native.Nat.{ℕ, suc, zero, _≤_, _<_, _-_}
 use native.Mathlib.Omega.{arith}
 use lib.Dec.{T, eqb, eqb→eq, eqb-refl}
 use lib.ListN.{getD}
-use Rattle.std.proofs.shelf.Lists.{getD-default}
 use Rattle.tables.specs.Multipliers.{entry, upto}
 use Rattle.tables.proofs.Tests.{T-true, not-T-false}
 use Rattle.codes.specs.Lists.{without}
@@ -47,11 +46,11 @@ loop-j-again-then-j-u g c =
     let s = g .S·Symbol in
     let j = c .loop-j .j in
     let f = λ (k : ℕ). share (s .zero) (s .sum) (s .times) (c .args .version) (entry (c .args .table .now)) k (getD (c .args .a .now) k (s .zero)) in
-    let h : c .share-of .result ≡ share (s .zero) (s .sum) (s .times) (c .args .version) (entry (c .args .table .now)) (j - 1) (getD (c .args .a .now) (j - 1) (c .index-a-j .result)) = c .share-of .ensures in
-    let x = getD-default (c .args .a .now) (j - 1) (c .index-a-j .result) (s .zero) (omega arith) in (
+    let h : c .share-of .result ≡ f (j - 1) =
+    c .share-of .ensures ∙ ap (share (s .zero) (s .sum) (s .times) (c .args .version) (entry (c .args .table .now)) (j - 1)) (c .symbol-at .ensures) in (
       omega arith,
       c .sum-total .ensures
-          ∙ ap₂ (s .sum) (h ∙ ap (share (s .zero) (s .sum) (s .times) (c .args .version) (entry (c .args .table .now)) (j - 1)) x) (c .loop-j .inv .1)
+          ∙ ap₂ (s .sum) h (c .loop-j .inv .1)
           ∙ taken (s .zero) (s .sum) f (c .args .u) j (c .span-from .result .1) (omega arith) (omega arith) (c .if-j-u .taken),
     )
 

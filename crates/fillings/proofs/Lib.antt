@@ -1,0 +1,9 @@
+pub mod Codewords
+pub mod Columns
+pub mod Groups
+pub mod Units
+pub mod Ten
+pub mod Choices
+pub mod Differences
+pub mod Short
+pub mod Rebuilding

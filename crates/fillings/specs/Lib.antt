@@ -1,0 +1,4 @@
+pub mod Columns
+pub mod Fillings
+pub mod Differences
+pub mod Rebuilding

@@ -26,16 +26,16 @@ use Rattle.fillings.proofs.Ten.{any-ten}
 use Rattle.fillings.proofs.Units.{second-is, second-ok, first-ok, second-same, first-same}
 
 -- units 1 to 11 without the data u
-abbrev front : ℕ → ℕ → Bool
+abbrev pub front : ℕ → ℕ → Bool
 front u p = ltb p 11 && not (eqb p u)
 
-front-ten : (u : ℕ) → u < 10 → T (eqb (count 14 (front u)) 10)
+pub front-ten : (u : ℕ) → u < 10 → T (eqb (count 14 (front u)) 10)
 front-ten = at (λ u. eqb (count 14 (front u)) 10) 10 tt
 
-front-in : (u p : ℕ) → p < 11 → p ≢ u → front u p ≡ true
+pub front-in : (u p : ℕ) → p < 11 → p ≢ u → front u p ≡ true
 front-in u p h q = ap₂ (λ b c. b && not c) (T-true _ (lt→ltb p 11 h)) (not-T-false (eqb p u) (λ t. q (eqb→eq p u t)))
 
-front-out : (u p : ℕ) → front u p ≡ true → (p < 11) × (p ≢ u)
+pub front-out : (u p : ℕ) → front u p ≡ true → (p < 11) × (p ≢ u)
 front-out u p e = go (ltb p 11) refl (eqb p u) refl e
   where
     go : (b : Bool) → ltb p 11 ≡ b → (c : Bool) → eqb p u ≡ c → b && not c ≡ true → (p < 11) × (p ≢ u)
@@ -44,12 +44,12 @@ front-out u p e = go (ltb p 11) refl (eqb p u) refl e
     go false f c g e = clash e
 
 -- what the choice of a short list says
-record Alone (v : Version) (stands : ℕ → Bool) (u : ℕ) : Type 0 where
-  data-unit : u < 10
-  short : T (has-short v)
-  others : count 14 stands ≡ 13
+pub record Alone (v : Version) (stands : ℕ → Bool) (u : ℕ) : Type 0 where
+  pub data-unit : u < 10
+  pub short : T (has-short v)
+  pub others : count 14 stands ≡ 13
 
-alone : (v : Version) (stands : ℕ → Bool) (u : ℕ) → is-short v stands u ≡ true → Alone v stands u
+pub alone : (v : Version) (stands : ℕ → Bool) (u : ℕ) → is-short v stands u ≡ true → Alone v stands u
 alone v stands u e = go (has-short v) refl (ltb u 10) refl (eqb (count 14 stands) 13) refl e
   where
     go : (a : Bool) → has-short v ≡ a → (b : Bool) → ltb u 10 ≡ b → (c : Bool) → eqb (count 14 stands) 13 ≡ c → a && (b && c) ≡ true → Alone v stands u
@@ -74,7 +74,7 @@ module _ {S : Type 0} {ok : S → Type 0} {none : S} {sum : S → S → S} {time
   seconds-only : (u : ℕ) (hu : u < 10) (y : ℕ → S) (hy : Oks ok y) (b : ℕ → S) → Seconds ok none sum times R u y b → (k : ℕ) → k < 10 → b k ≡ column u hu y hy .one k
   seconds-only u hu y hy b s = column u hu y hy .only b (s .oks) (λ p h t. s .fits p (front-out u p t .0) (front-out u p t .1))
 
-  piece-same : (u : ℕ) (x y b c : ℕ → S) → ((k : ℕ) → k < 10 → b k ≡ c k) → piece none sum times v R x y b u ≡ piece none sum times v R x y c u
+  pub piece-same : (u : ℕ) (x y b c : ℕ → S) → ((k : ℕ) → k < 10 → b k ≡ c k) → piece none sum times v R x y b u ≡ piece none sum times v R x y c u
   piece-same u x y b c e = go (home v u)
     where
       f : (l : ℕ) → parity none sum times R l b ≡ parity none sum times R l c
@@ -120,7 +120,7 @@ module _ {S : Type 0} {ok : S → Type 0} {none : S} {sum : S → S → S} {time
   nothing-added XorPlus a = refl
   nothing-added NonXor a = refl
 
-  front-second : (a b : ℕ → S) → Oks ok b → (p : ℕ) → p < 11 → B a b p ≡ codeword none sum times R b p
+  pub front-second : (a b : ℕ → S) → Oks ok b → (p : ℕ) → p < 11 → B a b p ≡ codeword none sum times R b p
   front-second a b hb p h =
       second-is 𝓢 v R a b hb p ∙ ap (sum (codeword none sum times R b p)) (go (ltb p 10) refl) ∙ unit-right 𝓢 _ (codeword-ok R (𝓡 .small) 𝓢 b hb p)
     where

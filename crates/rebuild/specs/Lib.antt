@@ -1,0 +1,6 @@
+pub mod Refusals
+pub mod Tableaus
+pub mod Gathered
+pub mod Data
+pub mod Plans
+pub mod PlanCalls

@@ -5,3 +5,4 @@ pub mod Pivoting
 pub mod Steps
 pub mod Solving
 pub mod Planning
+pub mod OwnHalves

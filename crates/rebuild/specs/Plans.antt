@@ -51,3 +51,4 @@ module _ {S : Type 0} (ok : S → Type 0) (none : S) (sum : S → S → S) (time
   pub record Rebuilds (v : Version) (t : Table) (stands : ℕ → Bool) (u : ℕ) (list : List (ℕ × ℕ)) (fetched : List S) (r : S × S) : Type 0 where
     pub rebuilt : ∥ Rebuilt ok none sum times v (entry t) stands (u - 1) (fetched-by none list fetched 1) (fetched-by none list fetched 2) r ∥₁
     pub only : Only v t stands u (fetched-by none list fetched 1) (fetched-by none list fetched 2) r
+    pub own : (a b : ℕ → S) → Oks ok a → Oks ok b → take (length list) fetched ≡ map (half-symbol v t a b) list → r ≡ units none sum times v (entry t) a b u

@@ -1,3 +1,4 @@
+use base.Stored.{coded-set, coded×}
 use mathlib.Core.Logic.{∥∥₁-elim}
 use mathlib.Core.Path.{_≡_, sym, ap, subst, subst₂, _∙_}
 use mathlib.Core.List.{List}
@@ -13,6 +14,7 @@ use Rattle.rebuild.specs.Gathered.{fetched-by}
 use Rattle.rebuild.specs.Plans.{stands-in, Planned, Only, Rebuilds}
 use Rattle.rebuild.specs.Tableaus.{Fair}
 use Rattle.rebuild.proofs.Gathering.{by-ok}
+use Rattle.rebuild.proofs.OwnHalves.{own-listed}
 use Rattle.rebuild.proofs.plan.Plan.rebuild.Needs as need
 
 pub returns : need.returns
@@ -37,4 +39,7 @@ returns g c =
           (λ p. by-ok (s .ok) (s .zero) (𝓢 .ok-zero) list xs (c .all-held .ensures) 1 p) (λ p. by-ok (s .ok) (s .zero) (𝓢 .ok-zero) list xs (c .all-held .ensures) 2 p) in
           ∣ subst (Rebuilt (s .ok) (s .zero) (s .sum) (s .times) (plan .version) R stands (plan .unit - 1) x y) (only (one .it) (one .holds)) (one .holds) ∣₁);
       only = only;
+      own = λ a b ha hb e.
+          ∥∥₁-elim (plan .planned) (coded-set (coded× (g .S .coded) (g .S .coded)) _ _)
+          (λ 𝓟. sym (only _ (own-listed 𝓢 𝓟 a b ha hb xs e)));
     }

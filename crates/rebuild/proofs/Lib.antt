@@ -1,8 +1,8 @@
 mod Fill
 mod Gathering
-mod Columns14
+mod TenProducts
 pub mod Pivoting
 pub mod Steps
-pub mod Solving
+pub mod Combining
 pub mod Planning
 pub mod OwnHalves

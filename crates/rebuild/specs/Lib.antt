@@ -4,3 +4,5 @@ pub mod Gathered
 pub mod Data
 pub mod Plans
 pub mod PlanCalls
+pub mod Solvers
+pub mod SolverCalls

@@ -7,4 +7,6 @@ mod positions;
 pub mod rebuild;
 pub mod refusal;
 mod short;
+pub mod solver;
+pub mod solving;
 mod tableau;

@@ -26,7 +26,7 @@ fn front(u: usize) -> [bool; 14]
 }
 
 // The ten lowest that stand.
-fn lowest(standing: &[bool; 14]) -> [bool; 14]
+pub(crate) fn lowest(standing: &[bool; 14]) -> [bool; 14]
     ensures { λ r. ⌜ ((p : ℕ) → p < 14 → getD r p false ≡ among-lowest 10 (λ q. getD (now (standing .entry)) q false) p) ⌝ }
 {
     let mut chosen = [false; 14];

@@ -60,7 +60,7 @@ impl Plan {
     pub fn list(&self) -> FetchList
         ensures { λ r. ⌜ listed r ≡ fetch-list (now (self .entry) .version) (stands-in (now (self .entry) .standing)) (now (self .entry) .unit) ⌝ }
     {
-        self.list
+        fetch_list(self.version, &self.standing, self.unit)
     }
 
     // The two symbols of the unit at one byte position, from those of the listed halves, in the list's order; what stands behind

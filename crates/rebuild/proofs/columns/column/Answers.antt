@@ -6,7 +6,7 @@ use lib.ListN.{getD, length, length-set}
 use Rattle.field.specs.Space.{dot}
 use Rattle.rebuild.specs.Tableaus.{at}
 use Rattle.rebuild.proofs.Fill.{set-more}
-use Rattle.rebuild.proofs.Columns14.{ten-products}
+use Rattle.rebuild.proofs.TenProducts.{ten-products}
 use Rattle.rebuild.proofs.columns.column.Needs as need
 
 pub loop-k-again : need.loop-k-again

@@ -6,7 +6,7 @@ use native.Mathlib.Bridge.{le-prop}
 use Prim.Native.Nat.{ℕ, _<_}
 use lib.ListN.{getD}
 use Rattle.rebuild.specs.Tableaus.{Solved, Fair}
-use Rattle.rebuild.proofs.Solving.{first-solved, second-solved}
+use Rattle.rebuild.proofs.Combining.{first-solved, second-solved}
 use Rattle.rebuild.proofs.data.data_of.Needs as need
 
 pub column-a-requires : need.column-a-requires

@@ -66,7 +66,7 @@ impl Plan {
     // The two symbols of the unit at one byte position, from those of the listed halves, in the list's order; what stands behind
     // the list's length is not read.
     pub fn rebuild<S: Symbol + Copy>(&self, fetched: &[S; 20]) -> (S, S)
-        ensures { λ r. ⌜ Rebuilds ok zero sum times (now (self .entry) .version) (now (self .entry) .table) (stands-in (now (self .entry) .standing)) (now (self .entry) .unit) (listed (now (self .entry) .list)) (now (fetched .entry)) r ⌝ }
+        ensures { λ r. ⌜ Rebuilds ok zero sum times (now (self .entry) .version) (now (self .entry) .table) (stands-in (now (self .entry) .standing)) (now (self .entry) .unit) (fetch-list (now (self .entry) .version) (stands-in (now (self .entry) .standing)) (now (self .entry) .unit)) (now (fetched .entry)) r ⌝ }
     {
         all_held(fetched);
         let halves = self.list.halves();

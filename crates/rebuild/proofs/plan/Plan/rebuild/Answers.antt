@@ -1,4 +1,4 @@
-use base.Stored.{coded-set, coded×}
+use base.Stored.{coded-set, coded×, codedList, codedℕ}
 use mathlib.Core.Logic.{∥∥₁-elim}
 use mathlib.Core.Path.{_≡_, sym, ap, subst, subst₂, _∙_}
 use mathlib.Core.List.{List}
@@ -33,7 +33,7 @@ returns g c =
     let only : Only (s .ok) (s .zero) (s .sum) (s .times) (plan .version) (plan .table) stands (plan .unit) x y (c .unit-from .result) =
     subst₂ (λ v w. Only (s .ok) (s .zero) (s .sum) (s .times) (plan .version) (plan .table) stands (plan .unit) v w (c .unit-from .result))
     (λ i p. ex p i) (λ i p. ey p i) (c .unit-from .ensures) in
-    record {
+    let all : Rebuilds (s .ok) (s .zero) (s .sum) (s .times) (plan .version) (plan .table) stands (plan .unit) list xs (c .unit-from .result) = record {
       rebuilt = ∥∥₁-elim (plan .planned) squash₁ (λ 𝓟.
           let one = rebuilt-one 𝓢 (plan .version) (𝓟 .fair .sound) stands (plan .unit - 1) (omega (arith, 𝓟 .low, 𝓟 .high)) (𝓟 .missing) (𝓟 .ten) x y
           (λ p. by-ok (s .ok) (s .zero) (𝓢 .ok-zero) list xs (c .all-held .ensures) 1 p) (λ p. by-ok (s .ok) (s .zero) (𝓢 .ok-zero) list xs (c .all-held .ensures) 2 p) in
@@ -42,4 +42,6 @@ returns g c =
       own = λ a b ha hb e.
           ∥∥₁-elim (plan .planned) (coded-set (coded× (g .S .coded) (g .S .coded)) _ _)
           (λ 𝓟. sym (only _ (own-listed 𝓢 𝓟 a b ha hb xs e)));
-    }
+    } in
+    subst (λ l. Rebuilds (s .ok) (s .zero) (s .sum) (s .times) (plan .version) (plan .table) stands (plan .unit) l xs (c .unit-from .result))
+    (∥∥₁-elim (plan .planned) (coded-set (codedList (coded× codedℕ codedℕ)) _ _) (λ 𝓟. 𝓟 .list-is)) all

@@ -5,13 +5,17 @@
     reference.py plate VERSION CODE U the plate's answer to one line
 
 It shares nothing with the proved code: products bit by bit, parities of POLY by long division, versions and
-lists written from the documents. The stored outputs under crates/ were made with it.
+lists written from the documents, lost units by elimination among the forms of the fetched halves. The stored
+outputs under crates/ were made with it.
 """
+import functools
 import sys
 
 H = 2
+TOGETHER = [1, 4, 12, 14]
 
 
+@functools.lru_cache(maxsize=None)
 def mul(a, b):
     p = 0
     for i in range(8):
@@ -23,6 +27,7 @@ def mul(a, b):
     return p
 
 
+@functools.lru_cache(maxsize=None)
 def inv(a):
     return next((b for b in range(256) if mul(a, b) == 1), 0)
 
@@ -111,6 +116,52 @@ def apply(form, i):
     return total
 
 
+def bytes_of(forms, half):
+    """The bytes of one half of a unit, by the unit's two forms."""
+    return [apply(forms[half - 1], i) for i in range(H)]
+
+
+def cleared(row, pivots):
+    """The row, a form and its bytes, without what the pivot rows can take out of it."""
+    for place, pivot in pivots:
+        factor = row[place]
+        row = [x ^ mul(factor, y) for x, y in zip(row, pivot)]
+    return row
+
+
+def eliminated(rows):
+    """Pivot rows of the given rows, each with 1 in its own place."""
+    pivots = []
+    for row in rows:
+        row = cleared(row, pivots)
+        place = next((k for k in range(20) if row[k]), None)
+        if place is not None:
+            by = inv(row[place])
+            pivots.append((place, [mul(by, x) for x in row]))
+    return pivots
+
+
+def rebuilt_half(version, code, listed, u, half):
+    """The bytes of a lost half, from those of the listed halves alone; None where they do not tell them."""
+    fetched_rows = []
+    for v, h in listed:
+        forms = unit_form(version, code, v)
+        fetched_rows.append(forms[h - 1] + bytes_of(forms, h))
+    left = cleared(unit_form(version, code, u)[half - 1] + [0] * H, eliminated(fetched_rows))
+    return None if any(left[:20]) else left[20:]
+
+
+def losses(version, code, patterns):
+    """How many lost units are rebuilt as they were, and how many halves are fetched, over (lost unit, all lost units)."""
+    right, count = 0, 0
+    for u, missing in patterns:
+        listed = fetched(version, u, missing)
+        forms = unit_form(version, code, u)
+        count += len(listed)
+        right += all(rebuilt_half(version, code, listed, u, h) == bytes_of(forms, h) for h in (1, 2))
+    return right, count
+
+
 def walkthrough():
     out = []
     out.append("One set of ten data units, two bytes in each half, encoded under every version and code.")
@@ -129,6 +180,10 @@ def walkthrough():
             total += len(listed)
             out.append(f"lost {u}: fetch {len(listed)} halves, {20 - len(listed)} fewer than 20:{halves(listed)}")
         out.append(f"all fourteen units lost in turn: {total} halves, Reed-Solomon 280")
+        right, count = losses(version, code, [(u, [u]) for u in range(1, 15)])
+        out.append(f"rebuilt {right} of 14 lost units, each the true one; halves fetched: {count}")
+        right, count = losses(version, code, [(u, TOGETHER) for u in TOGETHER])
+        out.append(f"rebuilt {right} of {len(TOGETHER)} units lost together, each the true one; halves fetched: {count}")
     return "\n".join(out)
 
 

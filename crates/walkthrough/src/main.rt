@@ -1,6 +1,7 @@
 // A walk through one set: ten data units are encoded under every version and code that go together, the fourteen units are
-// printed, and for each lost unit the halves that would be fetched.
+// printed, for each lost unit the halves that are fetched, and whether lost units are rebuilt as they were.
 mod data;
+mod lost;
 mod show;
 
 use codes::cauchy::Cauchy;

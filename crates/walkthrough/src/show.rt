@@ -1,5 +1,6 @@
 // What the walk prints.
 use crate::data::column;
+use crate::lost::show_losses;
 use codes::encode::encode_unit;
 use codes::fetch::fetch_list;
 use codes::list::FetchList;
@@ -9,15 +10,21 @@ use codes::version::Version;
 use field::symbol::ByteSymbol;
 use std::io;
 
-// The fourteen units under one scheme, and the halves to fetch for each of them.
+// The fourteen units under one scheme, the halves to fetch for each of them, and lost units rebuilt.
 pub fn show_scheme<V: Scheme>(rt: &impl Print, name: &str, scheme: &V) -> io::Result<()> {
     println!(rt, "\n{name}")?;
     for u in 1..15u8 {
         show_unit(rt, scheme, u)?;
     }
+    show_lists(rt, scheme.version())?;
+    show_losses(rt, scheme)
+}
+
+// The halves to fetch for each unit lost alone, and how many they are together.
+fn show_lists(rt: &impl Print, version: Version) -> io::Result<()> {
     let mut total = 0usize;
     for u in 1..15u8 {
-        let list = lost_list(scheme.version(), u);
+        let list = lost_list(version, u);
         show_list(rt, u, &list)?;
         total = total.saturating_add(list.halves().len());
     }

@@ -14,6 +14,13 @@ struct Tally {
     fetched: usize,
 }
 
+fn no_units() -> Tally {
+    Tally {
+        rebuilt: 0,
+        fetched: 0,
+    }
+}
+
 // The fourteen units at both byte positions.
 #[derive(Clone, Copy)]
 struct Units {
@@ -34,10 +41,7 @@ pub fn show_losses<V: Scheme>(rt: &impl Print, scheme: &V) -> io::Result<()> {
 
 // Each of the fourteen units lost alone.
 fn show_alone<V: Scheme>(rt: &impl Print, scheme: &V, units: &Units) -> io::Result<()> {
-    let mut tally = Tally {
-        rebuilt: 0,
-        fetched: 0,
-    };
+    let mut tally = no_units();
     for u in 1..15u8 {
         let standing = without(&[u]);
         tally = lose(rt, scheme, units, &standing, u, tally)?;
@@ -53,10 +57,7 @@ fn show_alone<V: Scheme>(rt: &impl Print, scheme: &V, units: &Units) -> io::Resu
 fn show_together<V: Scheme>(rt: &impl Print, scheme: &V, units: &Units) -> io::Result<()> {
     let lost = [1, 4, 12, 14];
     let standing = without(&lost);
-    let mut tally = Tally {
-        rebuilt: 0,
-        fetched: 0,
-    };
+    let mut tally = no_units();
     for u in lost {
         tally = lose(rt, scheme, units, &standing, u, tally)?;
     }
@@ -122,7 +123,7 @@ fn byte_of(units: &[(u8, u8); 14], u: u8, half: u8) -> u8 {
 }
 
 // Which units stand where the given ones are lost.
-fn without(lost: &[u8]) -> [bool; 14] {
+pub fn without(lost: &[u8]) -> [bool; 14] {
     let mut standing = [true; 14];
     for i in 0..lost.len() {
         let u = lost[i];

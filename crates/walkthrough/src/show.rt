@@ -1,6 +1,7 @@
 // What the walk prints.
 use crate::data::column;
 use crate::lost::show_losses;
+use crate::lost::without;
 use codes::encode::encode_unit;
 use codes::fetch::fetch_list;
 use codes::list::FetchList;
@@ -47,11 +48,7 @@ fn show_unit<V: Scheme>(rt: &impl Print, scheme: &V, u: u8) -> io::Result<()> {
 
 // The listed halves where only unit u is missing.
 fn lost_list(version: Version, u: u8) -> FetchList {
-    let mut standing = [true; 14];
-    if u >= 1 && u <= 14 {
-        standing[u as usize - 1] = false;
-    }
-    fetch_list(version, &standing, u)
+    fetch_list(version, &without(&[u]), u)
 }
 
 // The halves to fetch for a lost unit, and how many fewer they are than Reed-Solomon's twenty.

@@ -117,7 +117,7 @@ fn short(version: Version, u: usize) -> FetchList
 pub fn count_standing(standing: &[bool; 14]) -> usize
     ensures { λ r. ⌜ r ≡ count 14 (λ p. getD (now (standing .entry)) p false) ⌝ }
 {
-    let mut seen = 0usize;
+    let mut seen = 0usize; // standing units among those before p
     for p in 0..14usize {
         if standing[p] {
             seen += 1;

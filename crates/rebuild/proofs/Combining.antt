@@ -48,7 +48,7 @@ module _ {S : Type 0} {ok : S → Type 0} {none : S} {sum : S → S → S} {time
 
   module _ (v : Version) (x y a b : ℕ → S) (ha : Oks ok a) (hb : Oks ok b) (f : Fit none sum times v R ch x y a b) where
     -- what the base code has of a
-    first-column : (p : ℕ) → p < 14 → ch p ≡ true → C a p ≡ first-alone none sum v x y p
+    first-column : (p : ℕ) → p < 14 → ch p ≡ true → C a p ≡ first-alone sum v x y p
     first-column p h c =
         go (ltb p 10) (mixed v (p - 10))
         (sym (f .firsts p h c) ∙ first-is 𝓢 v R (𝓡 .small) a b ha p ∙ ap (λ z. sum (C a p) (cond (mix v p) z none)) (f .seconds p h c))
@@ -79,7 +79,7 @@ module _ {S : Type 0} {ok : S → Type 0} {none : S} {sum : S → S → S} {time
         go false s o w = sym (ap₂ sum w s ∙ back 𝓢 (C b p) _ okW o)
 
     -- the first column that the tableau gives, and then the second
-    pub first-solved : (v′ : ℕ → S) → ((p : ℕ) → p < 14 → v′ p ≡ first-alone none sum v x y p) → (k : ℕ) → k < 10
+    pub first-solved : (v′ : ℕ → S) → ((p : ℕ) → p < 14 → v′ p ≡ first-alone sum v x y p) → (k : ℕ) → k < 10
         → dot none sum times 10 (at t k) (λ i. v′ (getD basis i 0)) ≡ a k
     first-solved v′ e = column-of a v′ ha (λ p h c. first-column p h c ∙ sym (e p h))
 

@@ -1,6 +1,7 @@
 mod Fill
 mod Gathering
 mod TenProducts
+pub mod Exchange
 pub mod Pivoting
 pub mod Steps
 pub mod Combining

@@ -20,7 +20,8 @@ use Rattle.field.proofs.Products.{gmul-lt, inverse-lt, gmul-zero-l, gmul-zero-r
 use Rattle.tables.specs.Codewords.{bit, count, codeword, Bytes, Column, Law, Sound}
 use Rattle.tables.proofs.Counts.{count-more}
 use Rattle.tables.proofs.Tests.{T-true, low}
-use Rattle.rebuild.specs.Tableaus.{at, start-at, pivot-at, exchanged, Slot, Holds, Reached, Solved}
+use Rattle.rebuild.specs.Tableaus.{at, start-at, pivot-at, exchanged, Slot, Holds, Solved}
+use Rattle.rebuild.proofs.Exchange.{Reached}
 use Rattle.rebuild.proofs.Fill.{bit-same, bit-other, bit-byte}
 use Rattle.rebuild.proofs.Pivoting.{step, D-ok, dot-one}
 

@@ -17,8 +17,8 @@ abbrev pub fetched-by : {S : Type 0} → S → List (ℕ × ℕ) → List S → 
 fetched-by none list xs h p = cond (ltb p 14) (fetched-of none list xs h p) none
 
 -- what the base code has at position p of the first symbols x, where a second symbol was added
-abbrev pub first-alone : {S : Type 0} → S → (S → S → S) → Version → (ℕ → S) → (ℕ → S) → ℕ → S
-first-alone none sum v x y p = cond (ltb p 10) (x p) (cond (mixed v (p - 10)) (sum (x p) (y p)) (x p))
+abbrev pub first-alone : {S : Type 0} → (S → S → S) → Version → (ℕ → S) → (ℕ → S) → ℕ → S
+first-alone sum v x y p = cond (ltb p 10) (x p) (cond (mixed v (p - 10)) (sum (x p) (y p)) (x p))
 
 -- and of the second symbols y, where the first symbols a put something
 abbrev pub second-alone : {S : Type 0} → S → (S → S → S) → (ℕ → S → S) → Version → (ℕ → ℕ → ℕ) → (ℕ → S) → (ℕ → S) → ℕ → S

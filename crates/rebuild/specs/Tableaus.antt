@@ -2,14 +2,14 @@
 use Prim.Native.Nat.{ℕ, _+_, _-_, _*_, _/_, _%_, _<_, _≤_}
 use mathlib.Core.Path.{_≡_}
 use mathlib.Core.Logic.{_≢_}
-use mathlib.Core.Bool.{Bool, true, false, not, cond}
+use mathlib.Core.Bool.{Bool, true, false, cond}
 use mathlib.Core.List.{List}
 use lib.Bits.{bitXor}
 use lib.Dec.{ltb, eqb}
 use lib.ListN.{getD, length}
 use Rattle.field.specs.Arithmetic.{gmul, inverse}
 use Rattle.field.specs.Space.{dot}
-use Rattle.tables.specs.Codewords.{bit, count, codeword, Bytes, Sound}
+use Rattle.tables.specs.Codewords.{bit, codeword, Bytes, Sound}
 
 -- the coefficient of position p and basis slot k, which stands at 10 p + k
 abbrev pub at : List ℕ → ℕ → ℕ → ℕ
@@ -39,15 +39,6 @@ abbrev pub Holds : (ℕ → ℕ → ℕ) → List ℕ → List ℕ → Type 0
 Holds R t basis =
     (d : ℕ → ℕ) → Bytes d → (p : ℕ) → p < 14
     → codeword 0 bitXor gmul R d p ≡ dot 0 bitXor gmul 10 (at t p) (λ k. codeword 0 bitXor gmul R d (getD basis k 0))
-
--- the exchange has come to position q: the chosen parities below q are in the basis
-pub record Reached (R : ℕ → ℕ → ℕ) (chosen : ℕ → Bool) (q : ℕ) (t basis : List ℕ) : Type 0 where
-  pub size : length t ≡ 140
-  pub width : length basis ≡ 10
-  pub small : (n : ℕ) → n < 140 → getD t n 0 < 256
-  pub below : (k : ℕ) → k < 10 → getD basis k 0 < q
-  pub holds : Holds R t basis
-  pub left : count 10 (λ k. not (chosen (getD basis k 0))) + count (q - 10) (λ l. chosen (10 + l)) ≡ count 10 (λ k. not (chosen k))
 
 -- the basis is the ten chosen positions
 pub record Solved (R : ℕ → ℕ → ℕ) (chosen : ℕ → Bool) (t basis : List ℕ) : Type 0 where

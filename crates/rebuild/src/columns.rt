@@ -59,7 +59,7 @@ fn at_basis<S: Symbol + Copy>(basis: &[u8; 10], known: &[S; 14]) -> [S; 10]
 
 // The first symbols as the base code has them: unit 12's with its second added back where the version has added it.
 pub(crate) fn unmixed<S: Symbol + Copy>(version: Version, x: &[S; 14], y: &[S; 14]) -> [S; 14]
-    ensures { λ r. ⌜ ((p : ℕ) → p < 14 → getD r p zero ≡ first-alone zero sum version (λ q. getD (now (x .entry)) q zero) (λ q. getD (now (y .entry)) q zero) p) ⌝ }
+    ensures { λ r. ⌜ ((p : ℕ) → p < 14 → getD r p zero ≡ first-alone sum version (λ q. getD (now (x .entry)) q zero) (λ q. getD (now (y .entry)) q zero) p) ⌝ }
 {
     let none = S::zero();
     let mut symbols = [none; 14];
@@ -72,7 +72,7 @@ pub(crate) fn unmixed<S: Symbol + Copy>(version: Version, x: &[S; 14], y: &[S; 1
 // One of them.
 fn unmixed_at<S: Symbol + Copy>(version: Version, x: &[S; 14], y: &[S; 14], p: usize) -> S
     requires { ⌜ p < 14 ⌝ }
-    ensures { λ r. ⌜ r ≡ first-alone zero sum version (λ q. getD (now (x .entry)) q zero) (λ q. getD (now (y .entry)) q zero) p ⌝ }
+    ensures { λ r. ⌜ r ≡ first-alone sum version (λ q. getD (now (x .entry)) q zero) (λ q. getD (now (y .entry)) q zero) p ⌝ }
 {
     if p >= 10 && mixed(version, p as u8 - 10) {
         x[p].sum(y[p])

@@ -7,4 +7,4 @@ use Rattle.rebuild.proofs.columns.unmixed.Given as given
 abbrev pub Inv-loop-p : given.InvT-loop-p
 Inv-loop-p g l =
     let s = g .S·Symbol in
-    (length (l .symbols) ≡ 14) × ((p : ℕ) → p < l .p → getD (l .symbols) p (s .zero) ≡ first-alone (s .zero) (s .sum) (l .version) (λ q. getD (l .x) q (s .zero)) (λ q. getD (l .y) q (s .zero)) p)
+    (length (l .symbols) ≡ 14) × ((p : ℕ) → p < l .p → getD (l .symbols) p (s .zero) ≡ first-alone (s .sum) (l .version) (λ q. getD (l .x) q (s .zero)) (λ q. getD (l .y) q (s .zero)) p)

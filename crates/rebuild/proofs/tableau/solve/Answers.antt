@@ -5,7 +5,8 @@ use mathlib.Core.Bool.{Bool, false}
 use native.Mathlib.Omega.{arith}
 use lib.ListN.{length, getD}
 use Rattle.tables.specs.Multipliers.{entry}
-use Rattle.rebuild.specs.Tableaus.{Slot, Reached}
+use Rattle.rebuild.specs.Tableaus.{Slot}
+use Rattle.rebuild.proofs.Exchange.{Reached}
 use Rattle.rebuild.proofs.Steps.{begin, keep, advance, found, done}
 use Rattle.rebuild.proofs.tableau.solve.Needs as need
 use Rattle.rebuild.proofs.tableau.solve.Needs.{then-chosen-q, else-chosen-q}

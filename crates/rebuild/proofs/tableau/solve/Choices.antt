@@ -1,7 +1,7 @@
 use mathlib.Core.Bool.{false}
 use lib.ListN.{getD}
 use Rattle.tables.specs.Multipliers.{entry}
-use Rattle.rebuild.specs.Tableaus.{Reached}
+use Rattle.rebuild.proofs.Exchange.{Reached}
 use Rattle.rebuild.proofs.tableau.solve.Given as given
 
 abbrev pub Inv-loop-q : given.InvT-loop-q

@@ -1,4 +1,7 @@
 // The archive: the reference model of a set, the law over everything that can be done with a set, and a call that runs calls.
+
+#![tactic(auto)]
+
 pub mod figures;
 pub mod noting;
 pub mod order;

@@ -1,5 +1,8 @@
 // One recording through the archive: it is cut into sets, boxes are lost, their units are rebuilt over a slow link and read back.
 // The recording is made by a fixed rule, or is the file that is named as the argument.
+
+#![tactic(auto)]
+
 mod boxes;
 mod clerk;
 mod office;

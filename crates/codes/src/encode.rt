@@ -19,7 +19,7 @@ pub fn encode_unit<V: Scheme, S: Symbol + Copy>(
     b: &[S; 10],
     u: u8,
 ) -> Result<(S, S), Refusal>
-    ensures { result ≡ encoded zero sum times (version scheme.now) (table scheme.now) a.now b.now u }
+    ensures { result ≡ encoded S.zero S.sum S.times (V.version scheme.now) (V.table scheme.now) a.now b.now u }
 {
     encode_with(scheme.version(), &scheme.table(), a, b, u)
 }
@@ -32,7 +32,7 @@ pub fn encode_with<S: Symbol + Copy>(
     b: &[S; 10],
     u: u8,
 ) -> Result<(S, S), Refusal>
-    ensures { result ≡ encoded zero sum times version table.now a.now b.now u }
+    ensures { result ≡ encoded S.zero S.sum S.times version table.now a.now b.now u }
 {
     if u == 0 || u > 14 {
         return Err(Refusal::NoUnit);
@@ -53,8 +53,8 @@ fn parity_unit<S: Symbol + Copy>(
     l: u8,
 ) -> (S, S)
     requires { l < 4 }
-    ensures first { result.0 ≡ parity_first zero sum times version (entry table.now) (λ k. get_or a.now k zero) (λ k. get_or b.now k zero) l }
-    ensures second { result.1 ≡ parity_second zero sum times version (entry table.now) (λ k. get_or a.now k zero) (λ k. get_or b.now k zero) l }
+    ensures first { result.0 ≡ parity_first S.zero S.sum S.times version (entry table.now) (λ k. get_or a.now k S.zero) (λ k. get_or b.now k S.zero) l }
+    ensures second { result.1 ≡ parity_second S.zero S.sum S.times version (entry table.now) (λ k. get_or a.now k S.zero) (λ k. get_or b.now k S.zero) l }
 {
     let plain = parity_symbol(table, a, l);
     let second = parity_symbol(table, b, l).sum(added(version, table, a, l));
@@ -68,7 +68,7 @@ fn parity_unit<S: Symbol + Copy>(
 
 // Parity l of ten symbols, from 0; zero where there is no such parity.
 pub fn parity_symbol<S: Symbol + Copy>(table: &Table, x: &[S; 10], l: u8) -> S
-    ensures { result ≡ (if nat_lt l 4 then parity zero sum times (entry table.now) l (λ k. get_or x.now k zero) else zero) }
+    ensures { result ≡ (if nat_lt l 4 then parity S.zero S.sum S.times (entry table.now) l (λ k. get_or x.now k S.zero) else S.zero) }
 {
     match l {
         0 => sum_of_products(&table.f1.at, x),
@@ -93,7 +93,7 @@ pub fn mixed(version: Version, l: u8) -> bool
 
 // What the second symbol of parity l, from 0, has of the first symbols.
 pub fn added<S: Symbol + Copy>(version: Version, table: &Table, a: &[S; 10], l: u8) -> S
-    ensures { result ≡ piggyback zero sum times version (entry table.now) (λ k. get_or a.now k zero) l }
+    ensures { result ≡ piggyback S.zero S.sum S.times version (entry table.now) (λ k. get_or a.now k S.zero) l }
 {
     added_without(version, table, a, l, 10)
 }
@@ -106,7 +106,7 @@ pub fn added_without<S: Symbol + Copy>(
     l: u8,
     u: usize,
 ) -> S
-    ensures { result ≡ over zero sum (without u (group version l)) (λ j. share zero sum times version (entry table.now) j (slice_index_or a.now j zero)) }
+    ensures { result ≡ over S.zero S.sum (without u (group version l)) (λ j. share S.zero S.sum S.times version (entry table.now) j (slice_index_or a.now j S.zero)) }
 {
     let (from, to) = span(version, l);
     let mut total = S::zero();
@@ -120,7 +120,7 @@ pub fn added_without<S: Symbol + Copy>(
 
 // The symbol at a position, zero past the end.
 fn symbol_at<S: Symbol + Copy>(a: &[S], j: usize) -> S
-    ensures { result ≡ slice_index_or a.now j zero }
+    ensures { result ≡ slice_index_or a.now j S.zero }
 {
     if j < a.len() { a[j] } else { S::zero() }
 }
@@ -128,7 +128,7 @@ fn symbol_at<S: Symbol + Copy>(a: &[S], j: usize) -> S
 // What a member of a group adds to a second symbol.
 fn share_of<S: Symbol + Copy>(version: Version, table: &Table, j: usize, x: S) -> S
     requires { j < 10 }
-    ensures { result ≡ share zero sum times version (entry table.now) j x }
+    ensures { result ≡ share S.zero S.sum S.times version (entry table.now) j x }
 {
     match version {
         Version::Rs => x,

@@ -9,7 +9,7 @@ use field::form::Form;
 
 // The two forms of unit u.
 pub fn unit_forms<V: Scheme>(scheme: &V, u: u8) -> Result<(Form, Form), Refusal>
-    ensures { result ≡ forms_of (version scheme.now) (table scheme.now) u }
+    ensures { result ≡ forms_of (V.version scheme.now) (V.table scheme.now) u }
 {
     encode_unit(scheme, &singles(0), &singles(10), u)
 }

@@ -1,4 +1,7 @@
 // Base codes of ten data and four parity positions, and the four versions over them.
+
+#![tactic(auto)]
+
 pub mod base;
 pub mod cauchy;
 pub mod encode;

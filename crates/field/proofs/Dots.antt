@@ -1,5 +1,5 @@
 -- Sums of products, of any kind of symbol.
-use Rattle.std.proofs.Common.{◌≡◌, ℕ, zero, suc, ◌+◌, ◌-◌, ◌<◌, ◌≤◌, sym, refl, ap, ◌∙◌, subst, ap₂, arith}
+use Rattle.std.proofs.Common.{◌≡◌, ℕ, zero, suc, ◌+◌, ◌-◌, ◌<◌, ◌≤◌, sym, refl, ap, ◌∙◌, ap₂, arith}
 use lib.Bits.{bit_xor}
 use Rattle.field.specs.Arithmetic.{gmul}
 use Rattle.field.specs.Space.{Space, dot}

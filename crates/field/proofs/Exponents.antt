@@ -1,5 +1,5 @@
 -- The tables of exponents and logarithms, and that a sum of exponents is a product.
-use Rattle.std.proofs.Common.{◌≡◌, ℕ, zero, suc, ◌+◌, ◌-◌, ◌*◌, ◌/◌, ◌%◌, ◌<◌, Bool, true, false, T, eqb, ltb, List, [], ◌∷◌, ◌++◌, length, get_or, sym, refl, ap, ◌∙◌, subst, lt_trans, le_of_suc-le-suc, not-suc-le-zero, mod-lt, suc-add, zero-add, arith, lit<, eqb→eq, ltb→lt}
+use Rattle.std.proofs.Common.{◌≡◌, ℕ, zero, suc, ◌+◌, ◌-◌, ◌*◌, ◌/◌, ◌%◌, ◌<◌, Bool, true, T, eqb, ltb, List, [], ◌∷◌, ◌++◌, length, get_or, sym, refl, ap, ◌∙◌, lt_trans, le_of_suc-le-suc, not-suc-le-zero, mod-lt, suc-add, zero-add, arith, lit<, eqb→eq, ltb→lt}
 use Rattle.std.proofs.lemmas.List.{get_or_append_left, get_or-append-add}
 use Rattle.field.specs.Arithmetic.{gmul, inverse}
 use Rattle.field.specs.Tested.{both, both_left, both_right, at}

@@ -5,7 +5,6 @@ use Rattle.std.specs.Int.Bits.{xor_assoc, xor_self}
 use Rattle.std.proofs.Common.{lit<}
 use Rattle.field.specs.Arithmetic.{gmul}
 use Rattle.field.specs.Space.{Space}
-use Rattle.field.specs.Linear.{Lin}
 use Rattle.field.specs.Products.{gmul_lt, gmul_l, gmul_r, gmul_assoc, gmul_one_l}
 
 pub bytes : Space (λ x. x < 256) 0 bit_xor gmul

@@ -1,12 +1,11 @@
 -- The laws of rows of bytes, summed and multiplied byte by byte.
-use Rattle.std.specs.Prelude.{◌≡◌, ℕ, zero, suc, ◌+◌, ◌<◌, List, [], ◌∷◌, map, length, replicate, bit_xor, slice_index, refl}
-use Rattle.std.proofs.Common.{sym, ap, ap₂, subst, ◌∙◌, suc-ne-zero, lit<}
+use Rattle.std.specs.Prelude.{◌≡◌, ℕ, zero, suc, ◌<◌, List, [], ◌∷◌, map, length, replicate, bit_xor, slice_index, refl}
+use Rattle.std.proofs.Common.{sym, ap, ap₂, suc-ne-zero, lit<}
 use Rattle.std.proofs.Math.Nat.{suc_inj}
 use Rattle.std.proofs.lemmas.Nat.{xor_lt, xor_comm}
 use Rattle.std.specs.Int.Bits.{xor_assoc, xor_self}
 use Rattle.std.specs.Simd.Lanes.{zip2}
 use Rattle.field.specs.Arithmetic.{gmul}
-use Rattle.field.specs.Linear.{Lin}
 use Rattle.field.specs.Products.{gmul_lt, gmul_l, gmul_r, gmul_assoc, gmul_one_l}
 
 abbrev pub Bytes : List ℕ → Type 0

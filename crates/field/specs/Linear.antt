@@ -1,10 +1,10 @@
 -- Functions that go through XOR, and what two of them that agree on the eight powers of two agree on.
-use Rattle.std.specs.Prelude.{◌≡◌, ℕ, zero, suc, ◌+◌, ◌*◌, ◌/◌, ◌%◌, ◌^◌, ◌<◌, T, ◌⊎◌, bit_xor, nat_eq, refl}
-use Rattle.std.proofs.Common.{sym, ap, ap₂, subst, ◌∙◌, inl, inr, zero-mul, one-mul, mul-zero, add-zero, mod-lt, le_of_suc-le-suc, not-suc-le-zero, lt-suc_self, lt_trans, arith, eqb→eq, lit<, pow_pos}
+use Rattle.std.specs.Prelude.{◌≡◌, ℕ, zero, suc, ◌*◌, ◌/◌, ◌%◌, ◌^◌, ◌<◌, bit_xor, nat_eq, refl}
+use Rattle.std.proofs.Common.{sym, ap, ap₂, ◌∙◌, zero-mul, one-mul, add-zero, mod-lt, le_of_suc-le-suc, not-suc-le-zero, lt-suc_self, lt_trans, eqb→eq, lit<, pow_pos}
 use Rattle.std.specs.Int.Bits.{xor_assoc, xor_self, xor_zero_r}
 use Rattle.std.proofs.lemmas.Nat.{xor_comm, xor_shr, xor_mod, xor_block, xor_lt}
 use Rattle.field.specs.Arithmetic.{bit}
-use Rattle.field.specs.Tested.{below, at}
+use Rattle.field.specs.Tested.{at}
 
 pub swap4 : (a b c d : ℕ) → bit_xor (bit_xor a b) (bit_xor c d) ≡ bit_xor (bit_xor a c) (bit_xor b d)
 swap4 a b c d =

@@ -1,6 +1,6 @@
 -- A test that antt computes at every number below a bound.
-use Rattle.std.specs.Prelude.{◌≡◌, ℕ, zero, suc, ◌<◌, Bool, true, false, T, eqb, ◌⊎◌, refl}
-use Rattle.std.proofs.Common.{sym, ap, subst, ◌∙◌, inl, inr, eq-or-lt_of_le, le_of_suc-le-suc, not-suc-le-zero, eqb→eq}
+use Rattle.std.specs.Prelude.{ℕ, zero, suc, ◌<◌, Bool, true, false, T}
+use Rattle.std.proofs.Common.{sym, subst, inl, inr, eq-or-lt_of_le, le_of_suc-le-suc, not-suc-le-zero}
 
 abbrev pub both : Bool → Bool → Bool
 both true b = b

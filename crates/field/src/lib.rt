@@ -1,4 +1,7 @@
 // The byte field: product, inverse and quotient, and what can be summed and multiplied by a byte.
+
+#![tactic(auto)]
+
 ghost use Rattle.std.specs.Prelude.{◌≡◌};
 ghost use Rattle.field.specs.Arithmetic.{gmul, inverse, quotient};
 ghost use Rattle.field.specs.Laws.{Field};

@@ -62,7 +62,7 @@ impl Symbol for u8 {
 
 // The sum of products of bytes and symbols, taken in pairs; of the longer slice the rest is left out.
 pub fn sum_of_products<S: Symbol + Copy>(multipliers: &[u8], symbols: &[S]) -> S
-    ensures { result ≡ dot zero sum times (min (length multipliers.now) (length symbols.now)) (λ k. slice_index multipliers.now k) (λ k. slice_index_or symbols.now k zero) }
+    ensures { result ≡ dot S.zero S.sum S.times (min (length multipliers.now) (length symbols.now)) (λ k. slice_index multipliers.now k) (λ k. slice_index_or symbols.now k S.zero) }
 {
     let count = multipliers.len().min(symbols.len());
     let mut total = S::zero();

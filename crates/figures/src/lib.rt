@@ -1,4 +1,7 @@
 // Worked figures: what the definitions of the field, the codes and the stores give in small cases.
+
+#![tactic(auto)]
+
 ghost use Rattle.std.specs.Prelude.{◌≡◌, length};
 ghost use Rattle.figures.specs.Figures.{figures, Hold};
 

@@ -29,7 +29,7 @@ fn all_but(unit: u8) -> [bool; 14]
 // The page of a unit under a scheme.
 fn scheme_page<V: Scheme>(heap: Global, scheme: &V, unit: u8) -> Result<String, AllocError>
     requires { IsUnit unit }
-    ensures { IfOk result (λ s. string_bytes s ≡ table_page (version scheme.now) (table scheme.now) unit) }
+    ensures { IfOk result (λ s. string_bytes s ≡ table_page (V.version scheme.now) (V.table scheme.now) unit) }
 {
     let list = fetch_list(scheme.version(), &all_but(unit), unit);
     match unit_forms(scheme, unit) {

@@ -1,4 +1,7 @@
 // Reads one line, and prints how the unit that it names is encoded.
+
+#![tactic(auto)]
+
 mod answer;
 mod input;
 mod line;

@@ -44,7 +44,7 @@ fn row(entries: &[u8; 140], k: usize) -> [u8; 10]
 // The symbols at the chosen positions, in the order of the basis.
 fn at_basis<S: Symbol + Copy>(basis: &[u8; 10], known: &[S; 14]) -> [S; 10]
     requires { (k : ℕ) → k < 10 → slice_index basis.now k < 14 }
-    ensures { (i : ℕ) → i < 10 → slice_index_or result i zero ≡ slice_index_or known.now (slice_index basis.now i) zero }
+    ensures { (i : ℕ) → i < 10 → slice_index_or result i S.zero ≡ slice_index_or known.now (slice_index basis.now i) S.zero }
 {
     let none = S::zero();
     let mut symbols = [none; 10];
@@ -56,7 +56,7 @@ fn at_basis<S: Symbol + Copy>(basis: &[u8; 10], known: &[S; 14]) -> [S; 10]
 
 // The first symbols as the base code has them: unit 12's with its second added back where the version has added it.
 pub(crate) fn unmixed<S: Symbol + Copy>(version: Version, x: &[S; 14], y: &[S; 14]) -> [S; 14]
-    ensures { (p : ℕ) → p < 14 → slice_index_or result p zero ≡ first_alone sum version (λ q. get_or x.now q zero) (λ q. get_or y.now q zero) p }
+    ensures { (p : ℕ) → p < 14 → slice_index_or result p S.zero ≡ first_alone S.sum version (λ q. get_or x.now q S.zero) (λ q. get_or y.now q S.zero) p }
 {
     let none = S::zero();
     let mut symbols = [none; 14];
@@ -69,7 +69,7 @@ pub(crate) fn unmixed<S: Symbol + Copy>(version: Version, x: &[S; 14], y: &[S; 1
 // One of them.
 fn unmixed_at<S: Symbol + Copy>(version: Version, x: &[S; 14], y: &[S; 14], p: usize) -> S
     requires { p < 14 }
-    ensures { result ≡ first_alone sum version (λ q. get_or x.now q zero) (λ q. get_or y.now q zero) p }
+    ensures { result ≡ first_alone S.sum version (λ q. get_or x.now q S.zero) (λ q. get_or y.now q S.zero) p }
 {
     if p >= 10 && mixed(version, p as u8 - 10) {
         x[p].sum(y[p])
@@ -85,7 +85,7 @@ pub(crate) fn unburdened<S: Symbol + Copy>(
     a: &[S; 10],
     y: &[S; 14],
 ) -> [S; 14]
-    ensures { (p : ℕ) → p < 14 → slice_index_or result p zero ≡ second_alone zero sum times version (entry table.now) (λ k. get_or a.now k zero) (λ q. get_or y.now q zero) p }
+    ensures { (p : ℕ) → p < 14 → slice_index_or result p S.zero ≡ second_alone S.zero S.sum S.times version (entry table.now) (λ k. get_or a.now k S.zero) (λ q. get_or y.now q S.zero) p }
 {
     let none = S::zero();
     let mut symbols = [none; 14];
@@ -104,7 +104,7 @@ fn unburdened_at<S: Symbol + Copy>(
     p: usize,
 ) -> S
     requires { p < 14 }
-    ensures { result ≡ second_alone zero sum times version (entry table.now) (λ k. get_or a.now k zero) (λ q. get_or y.now q zero) p }
+    ensures { result ≡ second_alone S.zero S.sum S.times version (entry table.now) (λ k. get_or a.now k S.zero) (λ q. get_or y.now q S.zero) p }
 {
     if p < 10 {
         y[p]

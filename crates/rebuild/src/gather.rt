@@ -23,7 +23,7 @@ pub(crate) fn by_position<S: Symbol + Copy>(list: &[(u8, u8)], fetched: &[S], ha
 fn place<S: Symbol + Copy>(symbols: &mut [S; 14], unit: u8, symbol: S)
     requires { length symbols.old ≡ 14 }
     ensures long { length symbols.new ≡ 14 }
-    ensures placed { (p : ℕ) → p < 14 → slice_index_or symbols.new p zero ≡ (if nat_eq unit (p + 1) then symbol else slice_index_or symbols.old p zero) }
+    ensures placed { (p : ℕ) → p < 14 → slice_index_or symbols.new p S.zero ≡ (if nat_eq unit (p + 1) then symbol else slice_index_or symbols.old p S.zero) }
 {
     if unit >= 1 && unit <= 14 {
         symbols[unit as usize - 1] = symbol;
@@ -32,7 +32,7 @@ fn place<S: Symbol + Copy>(symbols: &mut [S; 14], unit: u8, symbol: S)
 
 // Changes nothing: its clause says that all symbols of a slice are ones that code holds.
 pub(crate) fn all_held<S: Symbol + Copy>(symbols: &[S])
-    ensures { (i : ℕ) → i < length symbols.now → ok (slice_index_or symbols.now i zero) }
+    ensures { (i : ℕ) → i < length symbols.now → S.ok (slice_index_or symbols.now i S.zero) }
 {
     for i in 0..symbols.len() {
         let _same = symbols[i].held();

@@ -1,4 +1,7 @@
 // Solving any ten of the fourteen positions, and rebuilding a lost unit from its listed halves.
+
+#![tactic(auto)]
+
 mod columns;
 mod data;
 mod gather;

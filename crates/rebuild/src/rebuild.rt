@@ -24,7 +24,7 @@ use field::symbol::Symbol;
 impl Plan {
     // The plan for the lost unit u, where `standing` says of units 1 to 14 whether they stand.
     pub fn new<V: Scheme>(scheme: &V, standing: &[bool; 14], u: u8) -> Result<Plan, Refusal>
-        ensures { Plans (version scheme.now) (table scheme.now) standing.now u result }
+        ensures { Plans (V.version scheme.now) (V.table scheme.now) standing.now u result }
     {
         if u == 0 || u > 14 {
             return Err(Refusal::NoUnit);
@@ -63,15 +63,15 @@ impl Plan {
     // The two symbols of the unit at one byte position, from those of the listed halves, in the list's order; what stands behind
     // the list's length is not read.
     pub fn rebuild<S: Symbol + Copy>(&self, fetched: &[S; 20]) -> (S, S)
-        ensures { Rebuilds ok zero sum times self.now.version self.now.table (stands_in self.now.standing) self.now.unit (fetch_list_of self.now.version (stands_in self.now.standing) self.now.unit) fetched.now result }
+        ensures { Rebuilds S.ok S.zero S.sum S.times self.now.version self.now.table (stands_in self.now.standing) self.now.unit (fetch_list_of self.now.version (stands_in self.now.standing) self.now.unit) fetched.now result }
     {
         self.rebuild_listed(&self.list, fetched)
     }
 
     // The same of symbols that were fetched in the order of another list.
     pub fn rebuild_listed<S: Symbol + Copy>(&self, list: &FetchList, fetched: &[S; 20]) -> (S, S)
-        ensures rebuilt { ∥ Rebuilt ok zero sum times self.now.version (entry self.now.table) (stands_in self.now.standing) (self.now.unit - 1) (fetched_by zero (listed list.now) fetched.now 1) (fetched_by zero (listed list.now) fetched.now 2) result ∥₁ }
-        ensures only { Only ok zero sum times self.now.version self.now.table (stands_in self.now.standing) self.now.unit (fetched_by zero (listed list.now) fetched.now 1) (fetched_by zero (listed list.now) fetched.now 2) result }
+        ensures rebuilt { ∥ Rebuilt S.ok S.zero S.sum S.times self.now.version (entry self.now.table) (stands_in self.now.standing) (self.now.unit - 1) (fetched_by S.zero (listed list.now) fetched.now 1) (fetched_by S.zero (listed list.now) fetched.now 2) result ∥₁ }
+        ensures only { Only S.ok S.zero S.sum S.times self.now.version self.now.table (stands_in self.now.standing) self.now.unit (fetched_by S.zero (listed list.now) fetched.now 1) (fetched_by S.zero (listed list.now) fetched.now 2) result }
     {
         all_held(fetched);
         let halves = list.halves();
@@ -82,7 +82,7 @@ impl Plan {
 
     // The unit from the fetched symbols by position.
     fn unit_from<S: Symbol + Copy>(&self, x: &[S; 14], y: &[S; 14]) -> (S, S)
-        ensures { Only ok zero sum times self.now.version self.now.table (stands_in self.now.standing) self.now.unit (λ p. slice_index_or x.now p zero) (λ p. slice_index_or y.now p zero) result }
+        ensures { Only S.ok S.zero S.sum S.times self.now.version self.now.table (stands_in self.now.standing) self.now.unit (λ p. slice_index_or x.now p S.zero) (λ p. slice_index_or y.now p S.zero) result }
     {
         if self.short {
             self.by_short(x, y)
@@ -94,7 +94,7 @@ impl Plan {
     // By a short list: the column of second symbols, and the first symbol by the group.
     fn by_short<S: Symbol + Copy>(&self, x: &[S; 14], y: &[S; 14]) -> (S, S)
         requires { self.now.short ≡ true }
-        ensures { Only ok zero sum times self.now.version self.now.table (stands_in self.now.standing) self.now.unit (λ p. slice_index_or x.now p zero) (λ p. slice_index_or y.now p zero) result }
+        ensures { Only S.ok S.zero S.sum S.times self.now.version self.now.table (stands_in self.now.standing) self.now.unit (λ p. slice_index_or x.now p S.zero) (λ p. slice_index_or y.now p S.zero) result }
     {
         let position = self.data_position();
         let b = column(&self.tableau.entries, &self.tableau.basis, y);
@@ -116,7 +116,7 @@ impl Plan {
     // From ten units: the data, and its unit.
     fn by_whole<S: Symbol + Copy>(&self, x: &[S; 14], y: &[S; 14]) -> (S, S)
         requires { self.now.short ≡ false }
-        ensures { Only ok zero sum times self.now.version self.now.table (stands_in self.now.standing) self.now.unit (λ p. slice_index_or x.now p zero) (λ p. slice_index_or y.now p zero) result }
+        ensures { Only S.ok S.zero S.sum S.times self.now.version self.now.table (stands_in self.now.standing) self.now.unit (λ p. slice_index_or x.now p S.zero) (λ p. slice_index_or y.now p S.zero) result }
     {
         let (a, b) = data_of(self.version, &self.table, &self.tableau, x, y);
         match encode_with(self.version, &self.table, &a, &b, self.unit) {

@@ -39,7 +39,7 @@ fn lone<S: Symbol + Copy>(
     u: usize,
 ) -> S
     requires { u < 10 }
-    ensures { result ≡ piece_at zero sum times version (entry table.now) (λ p. slice_index_or x.now p zero) (λ p. slice_index_or y.now p zero) (λ k. slice_index_or b.now k zero) u 0 }
+    ensures { result ≡ piece_at S.zero S.sum S.times version (entry table.now) (λ p. slice_index_or x.now p S.zero) (λ p. slice_index_or y.now p S.zero) (λ k. slice_index_or b.now k S.zero) u 0 }
 {
     let of_12 = x[11].sum(parity_symbol(table, b, 1));
     let of_13 = of_12.sum(y[12]).sum(parity_symbol(table, b, 2));
@@ -58,7 +58,7 @@ fn grouped<S: Symbol + Copy>(
     l: u8,
 ) -> S
     requires { (u < 10) × ((0 < l) × (l < 4)) }
-    ensures { result ≡ piece_at zero sum times version (entry table.now) (λ p. slice_index_or x.now p zero) (λ p. slice_index_or y.now p zero) (λ k. slice_index_or b.now k zero) u l }
+    ensures { result ≡ piece_at S.zero S.sum S.times version (entry table.now) (λ p. slice_index_or x.now p S.zero) (λ p. slice_index_or y.now p S.zero) (λ k. slice_index_or b.now k S.zero) u l }
 {
     let taken = y[10 + l as usize].sum(parity_symbol(table, b, l));
     divided(
@@ -72,7 +72,7 @@ fn grouped<S: Symbol + Copy>(
 // The first symbol from its share: under NONXOR divided by the second row's multiplier.
 fn divided<S: Symbol + Copy>(version: Version, table: &Table, u: usize, share: S) -> S
     requires { u < 10 }
-    ensures { result ≡ divided_by zero sum times version (entry table.now) u share }
+    ensures { result ≡ divided_by S.zero S.sum S.times version (entry table.now) u share }
 {
     match version {
         Version::Rs => share,

@@ -18,7 +18,7 @@ use field::symbol::Symbol;
 impl Solver {
     // The solver for the ten lowest of the units that stand.
     pub fn new<V: Scheme>(scheme: &V, standing: &[bool; 14]) -> Result<Solver, Refusal>
-        ensures { Prepares (version scheme.now) (table scheme.now) standing.now result }
+        ensures { Prepares (V.version scheme.now) (V.table scheme.now) standing.now result }
     {
         if count_standing(standing) < 10 {
             return Err(Refusal::TooFew);
@@ -37,7 +37,7 @@ impl Solver {
 
     // The ten first and ten second symbols of the data that has the symbols x and y in those units; the others are not read.
     pub fn data<S: Symbol + Copy>(&self, x: &[S; 14], y: &[S; 14]) -> ([S; 10], [S; 10])
-        ensures { TheData ok zero sum times self.now.version (entry self.now.table) (stands_in self.now.standing) (λ p. slice_index_or x.now p zero) (λ p. slice_index_or y.now p zero) (λ k. slice_index_or result.0 k zero) (λ k. slice_index_or result.1 k zero) }
+        ensures { TheData S.ok S.zero S.sum S.times self.now.version (entry self.now.table) (stands_in self.now.standing) (λ p. slice_index_or x.now p S.zero) (λ p. slice_index_or y.now p S.zero) (λ k. slice_index_or result.0 k S.zero) (λ k. slice_index_or result.1 k S.zero) }
     {
         all_held(x);
         all_held(y);

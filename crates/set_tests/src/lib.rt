@@ -1,4 +1,7 @@
 // Tests of the set, under every scheme and over both stores.
+
+#![tactic(auto)]
+
 #[cfg(test)]
 mod data;
 #[cfg(test)]

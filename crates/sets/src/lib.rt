@@ -1,4 +1,7 @@
 // The set: fourteen units in a store under one scheme, with rebuilds that go half by half.
+
+#![tactic(auto)]
+
 pub mod calls;
 pub mod changing;
 pub mod filling;

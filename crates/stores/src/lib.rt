@@ -1,4 +1,7 @@
 // Stores of fourteen units: what a store owes its callers, a store over lent bytes, and two stores as one.
+
+#![tactic(auto)]
+
 pub mod area;
 pub mod refusal;
 pub mod shelves;

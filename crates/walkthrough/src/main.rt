@@ -1,5 +1,8 @@
 // A walk through one set: ten data units are encoded under every version and code that go together, the fourteen units are
 // printed, for each lost unit the halves that are fetched, and whether lost units are rebuilt as they were.
+
+#![tactic(auto)]
+
 mod data;
 mod lost;
 mod show;

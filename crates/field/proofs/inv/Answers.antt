@@ -1,6 +1,5 @@
-use Rattle.std.proofs.Common.{◌≡◌, sym, ap, ◌∙◌, rules}
+use Rattle.std.proofs.Common.{sym, ap, ◌∙◌, rules}
 use Rattle.field.specs.Arithmetic.{inverse}
-use Rattle.field.specs.Laws.{Field}
 use Rattle.field.specs.Products.{field}
 use Rattle.field.proofs.inv.Goals as goal
 

@@ -1,4 +1,4 @@
-use Rattle.std.proofs.Common.{◌≡◌, ◌+◌, ◌-◌, ◌≤◌, get_or}
+use Rattle.std.proofs.Common.{◌≡◌, ◌+◌, ◌-◌, get_or}
 use Rattle.field.specs.Space.{dot}
 use Rattle.field.proofs.symbol.sum_of_products.Given as goal
 

@@ -1,5 +1,4 @@
-use Rattle.std.proofs.Common.{◌-◌, ◌∙◌}
-use Rattle.field.specs.Powers.{raised}
+use Rattle.std.proofs.Common.{◌∙◌}
 use Rattle.field.proofs.Exponents.{raised_inverse}
 use Rattle.field.proofs.tables.exp_opposite.Goals as goal
 

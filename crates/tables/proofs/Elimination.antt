@@ -1,12 +1,12 @@
 -- From a computed test of a table to its law, over any sum and product that keep the laws of a field of bytes.
 -- The test: every square part is regular. It clears the first column by each row that can serve, and tests what is left.
-use Prim.Native.Nat.{ℕ, zero, suc, ◌+◌, ◌-◌, ◌*◌, ◌<◌, ◌≤◌}
+use Prim.Native.Nat.{ℕ, zero, suc, ◌+◌, ◌<◌}
 use native.Mathlib.Nat.{le_of_suc-le-suc, not-suc-le-zero}
 use native.Mathlib.Omega.{arith}
 use mathlib.Core.Path.{◌≡◌, refl, sym, ap, ap₂, ◌∙◌, subst}
 use mathlib.Core.Bool.{Bool, true, false, not}
 use mathlib.Core.Logic.{◌≢◌}
-use lib.Dec.{T, eqb, eqb_refl}
+use lib.Dec.{T, eqb}
 use Rattle.field.specs.Space.{dot}
 use Rattle.field.specs.Tested.{both, both_left, both_right}
 use Rattle.tables.specs.Codewords.{bit, count, Bytes}

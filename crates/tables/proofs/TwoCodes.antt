@@ -1,22 +1,21 @@
 -- CAUCHY and POLY keep the law of a base code.
-use Prim.Native.Nat.{ℕ, zero, suc, ◌+◌, ◌-◌, ◌<◌, ◌≤◌, ◌%◌, ◌^◌}
+use Prim.Native.Nat.{ℕ, zero, suc, ◌+◌, ◌-◌, ◌<◌, ◌≤◌, ◌%◌}
 use native.Mathlib.Nat.{mod-lt}
 use native.Mathlib.Omega.{arith}
 use mathlib.Core.Path.{◌≡◌, refl, sym, ap, ap₂, subst, ◌∙◌}
-use mathlib.Core.Bool.{Bool, true, false, cond, not}
+use mathlib.Core.Bool.{Bool, true, false, not}
 use mathlib.Core.List.{List, [], ◌∷◌}
 use lib.Bits.{bit_xor, xor_lt, xor_comm, xor_assoc, xor_self, xor_zero_r, xor_mod}
-use lib.Dec.{T, ltb, ltb→lt, nltb→le, lt→ltb, lit<, eqb, eqb→eq}
+use lib.Dec.{T, ltb, ltb→lt, nltb→le, lit<, eqb, eqb→eq}
 use lib.ListN.{get_or}
 use Rattle.field.specs.Arithmetic.{gmul, inverse}
 use Rattle.field.specs.Space.{dot}
-use Rattle.field.specs.Linear.{Lin}
 use Rattle.field.specs.Products.{gmul_lt, gmul_l, gmul_r, gmul_assoc, gmul_one_l, gmul_comm, gmul_inverse, inverse_lt}
 use Rattle.field.specs.Tested.{both, both_left, both_right, at}
-use Rattle.tables.specs.Codewords.{count, Bytes, codeword, Has, Column, Law, Sound, Plain}
+use Rattle.tables.specs.Codewords.{Bytes, codeword, Law, Sound, Plain}
 use Rattle.tables.specs.Multipliers.{entry, cauchy, poly}
 use Rattle.tables.specs.declared.table.Table.{Table}
-use Rattle.tables.proofs.Elimination.{regular, Arithmetic, Fits, Unique, Mds, law}
+use Rattle.tables.proofs.Elimination.{regular, Arithmetic, Unique, Mds, law}
 use Rattle.tables.proofs.Tests.{low, high}
 
 -- The product of any two numbers, by their low eight bits: it keeps the field's laws with no premise.

@@ -1,5 +1,5 @@
 -- The table of forty multipliers, and those of the two base codes.
-use Rattle.std.specs.Prelude.{ℕ, zero, suc, ◌+◌, ◌-◌, Bool, true, false, cond, ◌&&◌, List, [], ◌∷◌, map, ltb, leb, get_or}
+use Rattle.std.specs.Prelude.{ℕ, zero, suc, ◌+◌, ◌-◌, cond, ◌&&◌, List, [], ◌∷◌, map, ltb, leb, get_or}
 use Rattle.std.specs.Int.Bits.{bit_xor}
 use Rattle.field.specs.Arithmetic.{gmul, inverse, quotient}
 use Rattle.tables.specs.declared.table.Row.{Row}

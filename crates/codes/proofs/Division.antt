@@ -1,11 +1,10 @@
 -- The division of POLY: after n bytes the remainder's coefficients are sums over the powers of X.
-use Rattle.std.proofs.Common.{◌≡◌, ℕ, zero, suc, ◌+◌, ◌-◌, ◌<◌, Bool, T, eqb, ltb, sym, refl, ap, ◌∙◌, ap₂, add-one, arith, lit<, eqb→eq, ltb→lt}
+use Rattle.std.proofs.Common.{◌≡◌, ℕ, zero, suc, ◌+◌, ◌-◌, ◌<◌, T, eqb, sym, refl, ap, ◌∙◌, ap₂, add-one, arith, lit<, eqb→eq}
 use lib.Bits.{bit_xor, xor_lt, xor_assoc}
 use Rattle.field.specs.Arithmetic.{gmul}
 use Rattle.field.specs.Space.{dot}
 use Rattle.field.specs.BytesSpace.{bytes}
 use Rattle.field.proofs.Dots.{dot_same, dot_more, dot_mix, dot_none}
-use Rattle.field.specs.Linear.{Lin}
 use Rattle.field.specs.Products.{gmul_lt, gmul_r, gmul_zero_l}
 use Rattle.field.specs.Tested.{at2}
 use Rattle.tables.specs.Codewords.{Bytes, parity}

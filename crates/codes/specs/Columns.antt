@@ -1,5 +1,5 @@
 -- What a base code's column call answers and writes.
-use Rattle.std.specs.Prelude.{ℕ, Bool, true, false, cond, ◌&&◌, List, [], ◌∷◌, length, Ok, Err, Result, ◌==◌, bit_xor, slice_index}
+use Rattle.std.specs.Prelude.{ℕ, Bool, cond, ◌&&◌, List, [], ◌∷◌, length, Ok, Err, Result, ◌==◌, bit_xor, slice_index}
 use Rattle.field.specs.Arithmetic.{gmul}
 use Rattle.tables.specs.Codewords.{parity}
 use Rattle.codes.specs.declared.refusal.Refusal.{Refusal}

@@ -1,6 +1,6 @@
 -- The four versions of a filling. At one byte position a(k) is the first byte of data unit k + 1, and b(k) its second.
 -- Position p is that of unit p + 1; parity l, from 0, is that of unit 11 + l.
-use Rattle.std.specs.Prelude.{ℕ, zero, suc, ◌+◌, ◌-◌, Bool, true, false, cond, ◌&&◌, List, [], ◌∷◌, Ok, Err, Result, ◌==◌, nat_le, nat_lt, slice_index_or}
+use Rattle.std.specs.Prelude.{ℕ, zero, suc, ◌-◌, Bool, false, cond, ◌&&◌, List, [], ◌∷◌, Ok, Err, Result, ◌==◌, nat_le, nat_lt, slice_index_or}
 use Rattle.tables.specs.Codewords.{parity, Plain}
 use Rattle.tables.specs.Multipliers.{entry}
 use Rattle.tables.specs.declared.table.Table.{Table}

@@ -17,7 +17,7 @@ loop-i-init g c =
 pub loop-i-preserved : goal.loop-i-preserved
 loop-i-preserved g c =
     let h : c.loop-i.i < length c.loop-i.log = omega arith in
-    line_more _ _ _ _ _ _ _ _ _ h c.loop-i.invariant c.noted-asked.ensures c.noted.ensures c.make-call-reply.ensures
+    line_more _ _ _ _ _ _ _ _ _ h c.loop-i.invariant c.noted-asked.ensures c.noted.ensures c.make_call-reply.ensures
 
 pub returns : goal.returns
 returns g c =

@@ -8,4 +8,4 @@ pub returns : goal.returns
 returns g c =
     let s = g.S.Symbol in
     let f = λ (k : ℕ). share s.zero s.sum s.times c.args.version (entry c.args.table.now) k (get_or c.args.a.now k s.zero) in
-    c.added-without.ensures ∙ ap (λ js. over s.zero s.sum js f) (no_tenth c.args.version c.args.l)
+    c.added_without.ensures ∙ ap (λ js. over s.zero s.sum js f) (no_tenth c.args.version c.args.l)

@@ -1,9 +1,8 @@
-use Rattle.std.proofs.Common.{◌≡◌, ℕ, zero, suc, ◌-◌, ◌<◌, ◌≤◌, Bool, true, false, cond, T, eqb, List, [], ◌∷◌, get_or, sym, refl, ap, ◌∙◌, subst, ap₂, arith, eqb→eq}
+use Rattle.std.proofs.Common.{◌≡◌, ℕ, suc, ◌-◌, ◌<◌, ◌≤◌, cond, T, eqb, ◌∷◌, get_or, sym, ap, ◌∙◌, subst, ap₂, arith, eqb→eq}
 use lib.Dec.{eqb_refl}
 use Rattle.tables.specs.Multipliers.{entry, upto}
 use Rattle.tables.proofs.Tests.{T_true, not_t_false}
 use Rattle.codes.specs.Lists.{without}
-use Rattle.codes.specs.Spans.{Run}
 use Rattle.codes.specs.Versions.{over, share}
 use Rattle.codes.proofs.encode.added_without.Goals as goal
 
@@ -41,8 +40,8 @@ loop-j-preserved-then-j-u g c =
     let s = g.S.Symbol in
     let j = c.loop-j.j in
     let f = λ (k : ℕ). share s.zero s.sum s.times c.args.version (entry c.args.table.now) k (get_or c.args.a.now k s.zero) in
-    let h : c.share-of.result ≡ f (j - 1) =
-    c.share-of.ensures ∙ ap (share s.zero s.sum s.times c.args.version (entry c.args.table.now) (j - 1)) c.symbol-at.ensures in (
+    let h : c.share_of.result ≡ f (j - 1) =
+    c.share_of.ensures ∙ ap (share s.zero s.sum s.times c.args.version (entry c.args.table.now) (j - 1)) c.symbol_at.ensures in (
       omega arith,
       c.sum-total.ensures
           ∙ ap₂ s.sum h c.loop-j.invariant.1

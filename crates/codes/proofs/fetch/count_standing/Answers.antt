@@ -1,4 +1,4 @@
-use Rattle.std.proofs.Common.{◌≡◌, ℕ, ◌+◌, Bool, false, get_or, sym, ap, ◌∙◌, arith}
+use Rattle.std.proofs.Common.{ℕ, ◌+◌, Bool, false, get_or, sym, ap, ◌∙◌, arith}
 use Rattle.tables.proofs.Counts.{count_yes, count_no}
 use Rattle.codes.proofs.fetch.count_standing.Goals as goal
 use Rattle.codes.proofs.fetch.count_standing.Goals.{then-standing-p, else-standing-p}

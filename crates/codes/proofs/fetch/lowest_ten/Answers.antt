@@ -1,4 +1,4 @@
-use Rattle.std.proofs.Common.{◌≡◌, ℕ, ◌+◌, ◌*◌, ◌≤◌, Bool, false, [], ◌∷◌, ◌++◌, get_or, sym, ap, ◌∙◌, arith}
+use Rattle.std.proofs.Common.{◌≡◌, ℕ, ◌+◌, Bool, false, [], ◌∷◌, ◌++◌, get_or, sym, ap, ◌∙◌, arith}
 use Rattle.tables.specs.Codewords.{count}
 use Rattle.tables.proofs.Counts.{count_yes, count_no}
 use Rattle.codes.specs.Lists.{listed, half}
@@ -6,8 +6,8 @@ use Rattle.codes.proofs.Listings.{whole_taken, whole_full, whole_missing}
 use Rattle.codes.proofs.fetch.lowest_ten.Goals as goal
 use Rattle.codes.proofs.fetch.lowest_ten.Goals.{then-standing-p, then-seen-lt10, else-seen-lt10, else-standing-p}
 
-pub push-whole-requires : goal.push-whole-requires
-push-whole-requires c = (omega (arith, c.loop-p.invariant.2 (omega arith)), omega arith)
+pub push_whole-requires : goal.push_whole-requires
+push_whole-requires c = (omega (arith, c.loop-p.invariant.2 (omega arith)), omega arith)
 
 pub loop-p-preserved : goal.loop-p-preserved
 loop-p-preserved c =
@@ -21,8 +21,8 @@ loop-p-preserved c =
             | then-seen-lt10 w' ↦ (
               omega (arith, w.seen-is),
               seen,
-              (λ h. omega (arith, w.seen-is, ap (λ l. l.len) (w.list_is ∙ w'.list_is), w'.push-whole.ensures.count, t.invariant.2 (omega (arith, w.seen-is)))),
-              ap listed (w.list_is ∙ w'.list_is) ∙ w'.push-whole.ensures.items
+              (λ h. omega (arith, w.seen-is, ap (λ l. l.len) (w.list-is ∙ w'.list-is), w'.push_whole.ensures.count, t.invariant.2 (omega (arith, w.seen-is)))),
+              ap listed (w.list-is ∙ w'.list-is) ∙ w'.push_whole.ensures.items
                   ∙ ap (λ xs. xs ++ (half 1 t.p ∷ half 2 t.p ∷ [])) t.invariant.3
                   ∙ sym (whole_taken stands t.p t.seen yes t.invariant.1 w'.if-seen-lt10.true),
             )
@@ -30,7 +30,7 @@ loop-p-preserved c =
               omega (arith, w.seen-is),
               seen,
               (λ h. omega (arith, w.seen-is, w'.if-seen-lt10.false)),
-              ap listed (w.list_is ∙ w'.list_is) ∙ t.invariant.3
+              ap listed (w.list-is ∙ w'.list-is) ∙ t.invariant.3
                   ∙ sym (whole_full stands t.p t.seen yes t.invariant.1 w'.if-seen-lt10.false),
             )
           ]
@@ -38,7 +38,7 @@ loop-p-preserved c =
           let no = w.if-standing-p.false in (
             omega (arith, w.seen-is),
             w.seen-is ∙ t.invariant.1 ∙ sym (count_no t.p stands no),
-            (λ h. omega (arith, w.seen-is, ap (λ l. l.len) w.list_is, t.invariant.2 (omega (arith, w.seen-is)))),
-            ap listed w.list_is ∙ t.invariant.3 ∙ sym (whole_missing stands t.p no),
+            (λ h. omega (arith, w.seen-is, ap (λ l. l.len) w.list-is, t.invariant.2 (omega (arith, w.seen-is)))),
+            ap listed w.list-is ∙ t.invariant.3 ∙ sym (whole_missing stands t.p no),
           )
     ]

@@ -1,4 +1,4 @@
-use Rattle.std.proofs.Common.{◌≡◌, ℕ, List, [], ◌∷◌, get_or, sym, ap, ap₂, arith, lit<}
+use Rattle.std.proofs.Common.{◌≡◌, ℕ, [], ◌∷◌, get_or, sym, ap, ap₂, arith, lit<}
 use Rattle.tables.specs.Codewords.{Bytes}
 use Rattle.codes.proofs.Division.{after_high, after_ten, next}
 use Rattle.codes.proofs.poly.remainder.Goals as goal
@@ -6,7 +6,7 @@ use Rattle.codes.proofs.poly.remainder.Goals as goal
 pub loop-d-preserved : goal.loop-d-preserved
 loop-d-preserved c =
     let d : ℕ → ℕ = λ k. get_or c.args.bytes.now k 0 in
-    let h : Bytes d = λ k. omega (arith, c.type-inv.bytes k) in
+    let h : Bytes d = λ k. omega (arith, c.type_inv.bytes k) in
     let n = c.loop-d.d-index in
     let x = c.loop-d.invariant in (
       next d h n 0 x.1 x.0 c.mul.ensures,

@@ -6,12 +6,12 @@ use Rattle.plate.proofs.answer.answer.Goals as goal
 
 pub returns-in-Ok : goal.returns-in-Ok
 returns-in-Ok c =
-    let printed = IfOk-weaker c.unit-page.result _ (λ s. Printed c.args.line.now (string_bytes s))
-    (λ s e. printed_unit c.args.line.now (string_bytes s) c.in-Ok.request c.in-Ok.ensures e) c.unit-page.ensures in
-    record { printed = printed; cut = cut_from_printed c.args.line.now c.unit-page.result printed }
+    let printed = IfOk-weaker c.unit_page.result _ (λ s. Printed c.args.line.now (string_bytes s))
+    (λ s e. printed_unit c.args.line.now (string_bytes s) c.in-Ok.request c.in-Ok.ensures e) c.unit_page.ensures in
+    record { printed = printed; cut = cut_from_printed c.args.line.now c.unit_page.result printed }
 
 pub returns-in-Err : goal.returns-in-Err
 returns-in-Err c =
-    let printed = IfOk-weaker c.refusal-text.result _ (λ s. Printed c.args.line.now (string_bytes s))
-    (λ s e. printed_refusal c.args.line.now (string_bytes s) c.in-Err.refusal c.in-Err.ensures e) c.refusal-text.ensures in
-    record { printed = printed; cut = cut_from_printed c.args.line.now c.refusal-text.result printed }
+    let printed = IfOk-weaker c.refusal_text.result _ (λ s. Printed c.args.line.now (string_bytes s))
+    (λ s e. printed_refusal c.args.line.now (string_bytes s) c.in-Err.refusal c.in-Err.ensures e) c.refusal_text.ensures in
+    record { printed = printed; cut = cut_from_printed c.args.line.now c.refusal_text.result printed }

@@ -25,6 +25,6 @@ returns g c =
     let e = c.in-Ok.ensures ∙ forms_are v t u c.requires.0 c.requires.1 in
     let forms : ◌≡◌ {A = Form × Form} (c.in-Ok.first, c.in-Ok.second) (unit_form v t u) = cc in
     let list : c.halves.result.now ≡ fetch_list_of v (λ p. get_or (all_others u) p false) u =
-    c.halves.ensures ∙ c.fetch-list-list.ensures ∙ ap₂ (λ w stands. fetch_list_of w (λ p. get_or stands p false) u) c.version.ensures c.all-but.ensures in
+    c.halves.ensures ∙ c.fetch_list-list.ensures ∙ ap₂ (λ w stands. fetch_list_of w (λ p. get_or stands p false) u) c.version.ensures c.all_but.ensures in
     IfOk-weaker c.page.result _ (λ x. string_bytes x ≡ table_page v t u)
     (λ x q. q ∙ ap₂ (λ f hs. page_text f.0.at f.1.at hs) forms list) c.page.ensures

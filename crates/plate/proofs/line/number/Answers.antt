@@ -2,17 +2,17 @@ use Rattle.std.proofs.Common.{◌+◌, ◌*◌, ◌/◌, ◌%◌, ◌<◌, arith
 use Rattle.plate.proofs.Numbers.{none_from, from_one, from_two}
 use Rattle.plate.proofs.line.number.Goals as goal
 
-pub returns-in-err-digit : goal.returns-in-err-digit
-returns-in-err-digit c =
+pub returns-in_err-digit : goal.returns-in_err-digit
+returns-in_err-digit c =
     rw c.from-residual.ensures
     (none_from c.args.digits.now (λ n w. omega (arith, ltb-true, ltb-false))
-    (λ n high w. c.in-err-digit.ensures (n / 10) (omega (arith, ltb-true, ltb-false)) w.tens))
+    (λ n high w. c.in_err-digit.ensures (n / 10) (omega (arith, ltb-true, ltb-false)) w.tens))
 
-pub returns-in-err-digit-2 : goal.returns-in-err-digit-2
-returns-in-err-digit-2 c =
-    rw c.from-residual-in-err-digit-2.ensures
+pub returns-in_err-digit-2 : goal.returns-in_err-digit-2
+returns-in_err-digit-2 c =
+    rw c.from-residual-in_err-digit-2.ensures
     (none_from c.args.digits.now (λ n w. omega (arith, ltb-true, ltb-false))
-    (λ n high w. c.in-err-digit-2.ensures (n % 10) (omega (arith, ltb-true, ltb-false)) w.ones))
+    (λ n high w. c.in_err-digit-2.ensures (n % 10) (omega (arith, ltb-true, ltb-false)) w.ones))
 
 pub returns-in-len1 : goal.returns-in-len1
 returns-in-len1 c = from_one c.args.digits.now c.digit.result (omega (arith, ltb-true, ltb-false)) c.digit.ensures
@@ -20,15 +20,15 @@ returns-in-len1 c = from_one c.args.digits.now c.digit.result (omega (arith, ltb
 pub returns-in-48 : goal.returns-in-48
 returns-in-48 c = none_from c.args.digits.now (λ n w. omega (arith, ltb-true, ltb-false)) (λ n high w. omega (arith, ltb-true, ltb-false))
 
-pub returns-in-ok-digit-2 : goal.returns-in-ok-digit-2
-returns-in-ok-digit-2 c =
-    let t = c.in-ok-digit.ensures in
-    let o = c.in-ok-digit-2.ensures in
-    let high : 10 * c.in-ok-digit.field-0 + c.in-ok-digit-2.field-0 < 100 = omega (arith, ltb-true, ltb-false) in
+pub returns-in_ok-digit-2 : goal.returns-in_ok-digit-2
+returns-in_ok-digit-2 c =
+    let t = c.in_ok-digit.ensures in
+    let o = c.in_ok-digit-2.ensures in
+    let high : 10 * c.in_ok-digit.field-0 + c.in_ok-digit-2.field-0 < 100 = omega (arith, ltb-true, ltb-false) in
     (high, from_two c.args.digits.now _ (omega (arith, ltb-true, ltb-false)) (omega (arith, ltb-true, ltb-false)) high (omega (arith, ltb-true, ltb-false)) (omega (arith, ltb-true, ltb-false)))
 
-pub returns-in-default : goal.returns-in-default
-returns-in-default c = none_from c.args.digits.now (λ n w. omega (arith, ltb-true, ltb-false)) (λ n high w. omega (arith, ltb-true, ltb-false))
+pub returns-in_default : goal.returns-in_default
+returns-in_default c = none_from c.args.digits.now (λ n w. omega (arith, ltb-true, ltb-false)) (λ n high w. omega (arith, ltb-true, ltb-false))
 
-pub returns-in-default·2 : goal.returns-in-default·2
-returns-in-default·2 c = none_from c.args.digits.now (λ n w. omega (arith, ltb-true, ltb-false)) (λ n high w. omega (arith, ltb-true, ltb-false))
+pub returns-in_default·2 : goal.returns-in_default·2
+returns-in_default·2 c = none_from c.args.digits.now (λ n w. omega (arith, ltb-true, ltb-false)) (λ n high w. omega (arith, ltb-true, ltb-false))

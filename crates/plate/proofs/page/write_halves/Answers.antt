@@ -6,10 +6,10 @@ use Rattle.plate.proofs.page.write_halves.Goals as goal
 
 pub loop-unit-preserved : goal.loop-unit-preserved
 loop-unit-preserved c =
-    turn entry_text c.args.halves.now c.loop-unit.unit-index _ _ _ (0, 0) c.loop-unit-test.true c.loop-unit.invariant c.in-ok-write-2.ensures.bytes
+    turn entry_text c.args.halves.now c.loop-unit.unit-index _ _ _ (0, 0) c.loop-unit-test.true c.loop-unit.invariant c.in_ok-write-2.ensures.bytes
 
 pub returns : goal.returns
 returns c =
     IfOk-weaker c.writeln.result _ _
-    (λ _ e. whole entry_text c.args.halves.now c.loop-unit.unit-index (decimal (length c.args.halves.now)) _ _ _ _ (omega arith) c.in-ok-write.ensures.bytes c.loop-unit.invariant e)
+    (λ _ e. whole entry_text c.args.halves.now c.loop-unit.unit-index (decimal (length c.args.halves.now)) _ _ _ _ (omega arith) c.in_ok-write.ensures.bytes c.loop-unit.invariant e)
     c.writeln.ensures.bytes

@@ -18,12 +18,12 @@ returns g c =
     let w = c.args.w in
     let n = s.size in
     let d = c.args.difference.now in
-    let place = c.xor-into.new.place in
+    let place = c.xor_into.new.place in
     let t : is_unit w ≡ true = (and_parts (is_unit w) (standing (s.unit w)) c.requires.stands).0 in
     let there : standing (s.unit w) ≡ true = (and_parts (is_unit w) (standing (s.unit w)) c.requires.stands).1 in
-    let l : length place ≡ 2 * n = omega (arith, c.xor-into.auto.place, c.read-standing.auto.place, c.requires.unit) in
-    let added : c.encode-bytes.new.place ≡ unit_bytes m n d w = c.encode-bytes.ensures ∙ ap (λ k. unit_bytes m k d w) c.size-h.ensures in
+    let l : length place ≡ 2 * n = omega (arith, c.xor_into.auto.place, c.read_standing.auto.place, c.requires.unit) in
+    let added : c.encode_bytes.new.place ≡ unit_bytes m n d w = c.encode_bytes.ensures ∙ ap (λ k. unit_bytes m k d w) c.size-h.ensures in
     let slot : halves n place ≡ sum_units (s.unit w) (unit_of m n d w) =
-    ap (halves n) (c.xor-into.ensures ∙ ap₂ (zip2 bit_xor) c.read-standing.ensures added)
+    ap (halves n) (c.xor_into.ensures ∙ ap₂ (zip2 bit_xor) c.read_standing.ensures added)
     ∙ sum_halves n (s.unit w) (first_half m n d w) (second_half m n d w) (standing_long s w (g.S.UnitStore.sound c.args.store.now) there) (length-map-range_with_len (λ i. (unit_at m n d w i).0) 0 n) in
     c.put.ensures.store ∙ put_is s w place t l ∙ ap (with_slot s w) slot

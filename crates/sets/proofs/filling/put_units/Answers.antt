@@ -13,12 +13,12 @@ loop-u-preserved g c =
     let h = c.size-h.result in
     let d = c.args.bytes.now in
     let u = c.loop-u.u in
-    let place = c.encode-bytes.new.place in
+    let place = c.encode_bytes.new.place in
     let t : is_unit u ≡ true = unit_true u (omega (arith, c.loop-u.auto.u)) (omega (arith, c.loop-u-test.true)) in
-    let l : length place ≡ 2 * s.size = omega (arith, c.encode-bytes.auto.place, c.loop-u.auto.place, c.requires.place, c.loop-u.invariant.0, c.size-h.ensures) in
+    let l : length place ≡ 2 * s.size = omega (arith, c.encode_bytes.auto.place, c.loop-u.auto.place, c.requires.place, c.loop-u.invariant.0, c.size-h.ensures) in
     let put = c.put.ensures.store ∙ put_is s u place t l in
     let slot : halves s.size place ≡ unit_of m h d u =
-    ap (λ n. halves n place) c.loop-u.invariant.0 ∙ ap (halves h) c.encode-bytes.ensures ∙ halves_of h (first_half m h d u) (second_half m h d u) (length-map-range_with_len (λ i. (unit_at m h d u i).0) 0 h) in (
+    ap (λ n. halves n place) c.loop-u.invariant.0 ∙ ap (halves h) c.encode_bytes.ensures ∙ halves_of h (first_half m h d u) (second_half m h d u) (length-map-range_with_len (λ i. (unit_at m h d u i).0) 0 h) in (
       ap (λ (x : Store). x.size) put ∙ c.loop-u.invariant.0,
       subst (λ (x : Store). (k : ℕ) → k < u + 1 → is_unit k ≡ true → x.unit k ≡ unit_of m h d k) (sym put) (slot_more s u (halves s.size place) (unit_of m h d) slot c.loop-u.invariant.1),
     )

@@ -37,5 +37,5 @@ returns g c =
 pub bounds-halves-n : goal.bounds-halves-n
 bounds-halves-n g c = within g c
 
-pub offset-bounds-halves-n : goal.offset-bounds-halves-n
-offset-bounds-halves-n g c = let l = within g c in omega arith
+pub offset_bounds-halves-n : goal.offset_bounds-halves-n
+offset_bounds-halves-n g c = let l = within g c in omega arith

@@ -13,9 +13,9 @@ loop-n-preserved c =
     let f : ℕ → ℕ = λ k. get_or (get_or c.args.halves.now k []) c.args.i 0 in (
       length-set _ _ _ ∙ c.loop-n.invariant.0,
       (
-        element_more f bs n _ 0 l c.byte-at.ensures.value c.loop-n.invariant.1.0,
+        element_more f bs n _ 0 l c.byte_at.ensures.value c.loop-n.invariant.1.0,
         λ k. ⊎_elim
-            (λ (e : k ≡ n). subst (λ z. z < 256) (sym (ap (λ z. get_or (set bs n c.byte-at.result) z 0) e ∙ get_or-set_same bs n _ 0 l)) c.byte-at.ensures.byte)
+            (λ (e : k ≡ n). subst (λ z. z < 256) (sym (ap (λ z. get_or (set bs n c.byte_at.result) z 0) e ∙ get_or-set_same bs n _ 0 l)) c.byte_at.ensures.byte)
             (λ (e : k ≡ n → ⊥). subst (λ z. z < 256) (sym (get_or-set_other bs n k _ 0 e)) (c.loop-n.invariant.1.1 k))
             (cases_eq k n),
       ),

@@ -13,5 +13,5 @@ returns g c =
     let s = c.args.scheme.now in
     let p = c.in-Ok.ensures in
     let l = c.args.list.now in
-    rebuilt_all (make g.V.Scheme s) c.args.stood.now c.args.u (listed l) c.args.halves.now l.len c.args.h c.write-rebuilt.new.place _ _ _ _
-    p.0 p.1 p.2 p.3 c.requires.can (length-take-le _ _ (omega arith)) (omega arith) c.write-rebuilt.ensures.bytes c.write-rebuilt.ensures.only
+    rebuilt_all (make g.V.Scheme s) c.args.stood.now c.args.u (listed l) c.args.halves.now l.len c.args.h c.write_rebuilt.new.place _ _ _ _
+    p.0 p.1 p.2 p.3 c.requires.can (length-take-le _ _ (omega arith)) (omega arith) c.write_rebuilt.ensures.bytes c.write_rebuilt.ensures.only

@@ -11,7 +11,7 @@ use Rattle.sets.proofs.units.byte_pair.Goals as goal
 pub unreachable-requires : goal.unreachable-requires
 unreachable-requires g c =
     let s = c.args.scheme.now in
-    let e = c.in-Err.ensures ∙ encoded_is 0 bit_xor gmul (g.V.Scheme.version s) (g.V.Scheme.table s) c.data-column-a.result c.data-column-b.result c.args.u c.requires.low c.requires.high in
+    let e = c.in-Err.ensures ∙ encoded_is 0 bit_xor gmul (g.V.Scheme.version s) (g.V.Scheme.table s) c.data_column-a.result c.data_column-b.result c.args.u c.requires.low c.requires.high in
     let z : ◌≡◌ {A = ℕ} 0 1 = cc in
     omega arith
 
@@ -24,8 +24,8 @@ returns g c =
     let h = c.args.h in
     let d = c.args.bytes.now in
     let i = c.args.i in
-    let e = c.in-Ok.ensures ∙ encoded_is 0 bit_xor gmul v t c.data-column-a.result c.data-column-b.result c.args.u c.requires.low c.requires.high in
-    let p : c.in-Ok.pair ≡ units 0 bit_xor gmul v (entry t) (λ k. get_or c.data-column-a.result k 0) (λ k. get_or c.data-column-b.result k 0) c.args.u = cc in
+    let e = c.in-Ok.ensures ∙ encoded_is 0 bit_xor gmul v t c.data_column-a.result c.data_column-b.result c.args.u c.requires.low c.requires.high in
+    let p : c.in-Ok.pair ≡ units 0 bit_xor gmul v (entry t) (λ k. get_or c.data_column-a.result k 0) (λ k. get_or c.data_column-b.result k 0) c.args.u = cc in
     p ∙ ap₂ (λ (a b : ℕ → ℕ). units 0 bit_xor gmul v (entry t) a b c.args.u)
-    (column_is h i d c.data-column-a.result c.requires.whole c.data-column-a.ensures)
-    (column_is h (h + i) d c.data-column-b.result c.requires.whole c.data-column-b.ensures)
+    (column_is h i d c.data_column-a.result c.requires.whole c.data_column-a.ensures)
+    (column_is h (h + i) d c.data_column-b.result c.requires.whole c.data_column-b.ensures)

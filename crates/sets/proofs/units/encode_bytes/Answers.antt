@@ -7,7 +7,7 @@ use Rattle.sets.proofs.units.encode_bytes.Goals as goal
 pub loop-i-preserved : goal.loop-i-preserved
 loop-i-preserved g c =
     written_more (λ k r. r ≡ unit_at (make g.V.Scheme c.args.scheme.now) c.args.h c.args.bytes.now c.args.u k) c.args.h c.loop-i.i c.loop-i.place _ _
-    (omega arith) (omega arith) c.byte-pair-x.ensures c.loop-i.invariant
+    (omega arith) (omega arith) c.byte_pair-x.ensures c.loop-i.invariant
 
 pub returns : goal.returns
 returns g c =

@@ -1,6 +1,5 @@
-use Rattle.std.proofs.Common.{◌≡◌, ◌+◌, [], ◌∷◌, ◌++◌, map, sym, ap, ◌∙◌, ap₂, append_assoc}
+use Rattle.std.proofs.Common.{◌+◌, [], ◌∷◌, ◌++◌, map, sym, ap, ◌∙◌, ap₂, append_assoc}
 use Rattle.codes.specs.Lists.{listed, half, short_end, without}
-use Rattle.codes.specs.Spans.{Run}
 use Rattle.codes.specs.Versions.{group}
 use Rattle.codes.proofs.Listings.{end_group}
 use Rattle.codes.proofs.list.FetchList.push_end.Goals as goal
@@ -20,7 +19,7 @@ returns-else-l-eq0 c =
     let u = c.args.u in
     let l = c.args.l in
     let run = c.span-from.ensures in
-    c.push-others.ensures.items
+    c.push_others.ensures.items
     ∙ ap₂ ◌++◌ c.push-else-l-eq0.ensures.items (ap (λ js. map (half 1) (without u js)) run.members)
     ∙ append_assoc before ((11 + l, 2) ∷ []) (map (half 1) (without u (group c.args.version l)))
     ∙ ap (λ t. before ++ t) (end_group c.args.version u l c.if-l-eq0.false)

@@ -1,4 +1,4 @@
-use Rattle.std.proofs.Common.{◌≡◌, [], ◌∷◌, ◌++◌, ap, ◌∙◌, append_assoc, arith}
+use Rattle.std.proofs.Common.{[], ◌∷◌, ◌++◌, ap, ◌∙◌, append_assoc, arith}
 use Rattle.codes.specs.Lists.{listed, half}
 use Rattle.codes.proofs.list.FetchList.push_whole.Goals as goal
 

@@ -21,10 +21,10 @@ returns g c q r =
     let x = λ (p : ℕ). get_or c.args.x.now p s.zero in
     let y = λ (p : ℕ). get_or c.args.y.now p s.zero in
     let b = λ (k : ℕ). get_or c.column-b.result k s.zero in
-    let at = c.data-position-position.ensures.value in
+    let at = c.data_position-position.ensures.value in
     let ten : length c.column-b.result ≡ 10 = search rules in
-    let second : get_or c.column-b.result c.data-position-position.result c.index-b-position.result ≡ b (plan.unit - 1) =
-    get_or_default c.column-b.result c.data-position-position.result c.index-b-position.result s.zero (omega (arith, c.data-position-position.ensures.bound))
+    let second : get_or c.column-b.result c.data_position-position.result c.index-b-position.result ≡ b (plan.unit - 1) =
+    get_or_default c.column-b.result c.data_position-position.result c.index-b-position.result s.zero (omega (arith, c.data_position-position.ensures.bound))
     ∙ ap b at in
     let first : c.piece.result ≡ piece s.zero s.sum s.times plan.version R x y b (plan.unit - 1) =
     c.piece.ensures ∙ ap (piece s.zero s.sum s.times plan.version R x y b) at in

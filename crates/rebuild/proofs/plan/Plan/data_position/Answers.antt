@@ -5,8 +5,8 @@ use Rattle.fillings.proofs.Rebuilding.{alone, Alone}
 use Rattle.rebuild.specs.Plans.{stands_in, Planned}
 use Rattle.rebuild.proofs.plan.Plan.data_position.Goals as goal
 
-pub overflow-sub-result : goal.overflow-sub-result
-overflow-sub-result c = let low : 1 ≤ c.args.self.now.unit = ∥∥₁_elim c.args.self.now.planned le_prop (λ 𝓟. 𝓟.low) in omega arith
+pub overflow_sub-result : goal.overflow_sub-result
+overflow_sub-result c = let low : 1 ≤ c.args.self.now.unit = ∥∥₁_elim c.args.self.now.planned le_prop (λ 𝓟. 𝓟.low) in omega arith
 
 pub returns : goal.returns
 returns c =

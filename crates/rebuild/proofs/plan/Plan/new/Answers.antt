@@ -13,15 +13,15 @@ pub solve-tableau-requires : goal.solve-tableau-requires
 solve-tableau-requires g c =
     let s = c.args.scheme.now in (
       subst (λ (t : Table). Sound (entry t)) (sym c.table-table.ensures) (g.V.Scheme.sound s),
-      chosen_ten c.version-version.result (stands_in c.args.standing.now) (c.args.u - 1) c.is-short-short.result c.is-short-short.ensures
-          (subst (λ (n : ℕ). 10 ≤ n) c.count-standing.ensures c.if-count-standing-lt10.false)
-          (λ p. get_or c.solved-positions-chosen.result p false) c.solved-positions-chosen.ensures,
+      chosen_ten c.version-version.result (stands_in c.args.standing.now) (c.args.u - 1) c.is_short-short.result c.is_short-short.ensures
+          (subst (λ (n : ℕ). 10 ≤ n) c.count_standing.ensures c.if-count_standing-lt10.false)
+          (λ p. get_or c.solved_positions-chosen.result p false) c.solved_positions-chosen.ensures,
     )
 
-pub invariant-of-result : goal.invariant-of-result
-invariant-of-result g c =
+pub invariant_of-result : goal.invariant_of-result
+invariant_of-result g c =
     let s = c.args.scheme.now in
-    let same : (p : ℕ) → get_or c.solve-tableau.result.chosen p false ≡ get_or c.solved-positions-chosen.result p false =
+    let same : (p : ℕ) → get_or c.solve-tableau.result.chosen p false ≡ get_or c.solved_positions-chosen.result p false =
     λ p. ap (λ xs. get_or xs p false) c.solve-tableau.ensures.chosen in (
       ∣ record {
         fair = record {
@@ -33,10 +33,10 @@ invariant-of-result g c =
         low = omega arith;
         high = omega arith;
         missing = c.if-standing-position.false;
-        ten = subst (λ (n : ℕ). 10 ≤ n) c.count-standing.ensures c.if-count-standing-lt10.false;
-        short_is = c.is-short-short.ensures;
-        list_is = c.fetch-list-list.ensures;
-        chosen_is = λ p h. same p ∙ c.solved-positions-chosen.ensures p h;
+        ten = subst (λ (n : ℕ). 10 ≤ n) c.count_standing.ensures c.if-count_standing-lt10.false;
+        short_is = c.is_short-short.ensures;
+        list_is = c.fetch_list-list.ensures;
+        chosen_is = λ p h. same p ∙ c.solved_positions-chosen.ensures p h;
       } ∣₁,
       tt,
     )

@@ -11,12 +11,12 @@ use Rattle.rebuild.proofs.solver.Solver.new.Goals as goal
 pub solve-tableau-requires : goal.solve-tableau-requires
 solve-tableau-requires g c = (
   subst (λ (t : Table). Sound (entry t)) (sym c.table-table.ensures) (g.V.Scheme.sound c.args.scheme.now),
-  lowest_ten (stands_in c.args.standing.now) (subst (λ (n : ℕ). 10 ≤ n) c.count-standing.ensures c.if-count-standing-lt10.false)
+  lowest_ten (stands_in c.args.standing.now) (subst (λ (n : ℕ). 10 ≤ n) c.count_standing.ensures c.if-count_standing-lt10.false)
       (λ p. get_or c.lowest-chosen.result p false) c.lowest-chosen.ensures,
 )
 
-pub invariant-of-result : goal.invariant-of-result
-invariant-of-result g c =
+pub invariant_of-result : goal.invariant_of-result
+invariant_of-result g c =
     let same : (p : ℕ) → get_or c.solve-tableau.result.chosen p false ≡ get_or c.lowest-chosen.result p false =
     λ p. ap (λ xs. get_or xs p false) c.solve-tableau.ensures.chosen in (
       ∣ record {
@@ -24,7 +24,7 @@ invariant-of-result g c =
           sound = subst (λ (t : Table). Sound (entry t)) (sym c.table-table.ensures) (g.V.Scheme.sound c.args.scheme.now);
           solved = subst (λ (ch : ℕ → Bool). Solved (entry c.table-table.result) ch c.solve-tableau.result.entries c.solve-tableau.result.basis) (λ i p. sym (same p) i) c.solve-tableau.ensures.solved;
         };
-        ten = subst (λ (n : ℕ). 10 ≤ n) c.count-standing.ensures c.if-count-standing-lt10.false;
+        ten = subst (λ (n : ℕ). 10 ≤ n) c.count_standing.ensures c.if-count_standing-lt10.false;
         chosen_is = λ p h. same p ∙ c.lowest-chosen.ensures p h;
       } ∣₁,
       tt,

@@ -18,19 +18,19 @@ returns g c =
     let s = v.store in
     let n = s.size in
     let u = c.args.t.unit in
-    let yes : matches (status v) full_ticket u c.args.t.count ≡ true = sym c.matches-full.ensures ∙ c.if-not-matches-full.false in
+    let yes : matches (status v) full_ticket u c.args.t.count ≡ true = sym c.matches_full.ensures ∙ c.if-not-matches_full.false in
     let m = matched (status v) full_ticket u c.args.t.count yes in
     let held : length v.gathered ≡ self.count = held_length n self.count self.halves (omega arith) in
     let long : length v.list ≡ self.list.len = length-take-le _ _ (omega arith) in
     let all : self.list.len ≡ self.count = sym long ∙ sym (eqb-true _ _ m.kind) ∙ held in
-    let bytes = c.rebuild-bytes.new.place in
+    let bytes = c.rebuild_bytes.new.place in
     let is : bytes ≡ rebuilt_bytes v.make n v.stood u v.list v.gathered =
-    c.rebuild-bytes.ensures
+    c.rebuild_bytes.ensures
     ∙ ap (λ h. rebuilt_bytes v.make h v.stood u v.list (map (take h) (take self.list.len self.halves))) c.size-h.ensures
     ∙ ap (λ k. rebuilt_bytes v.make n v.stood u v.list (map (take n) (take k self.halves))) all in
-    let put = c.put.ensures.store ∙ put_is s u bytes (unit_true u (omega (arith, m.some)) (omega (arith, m.unit))) (omega (arith, c.rebuild-bytes.auto.place, c.size-h.ensures)) in
+    let put = c.put.ensures.store ∙ put_is s u bytes (unit_true u (omega (arith, m.some)) (omega (arith, m.unit))) (omega (arith, c.rebuild_bytes.auto.place, c.size-h.ensures)) in
     record {
-      view = c.end-rebuild.ensures ∙ ap (idle v.make) (put ∙ ap (λ xs. with_slot s u (halves n xs)) is) ∙ sym (close_accepted v u c.args.t.count yes).0;
+      view = c.end_rebuild.ensures ∙ ap (idle v.make) (put ∙ ap (λ xs. with_slot s u (halves n xs)) is) ∙ sym (close_accepted v u c.args.t.count yes).0;
       answer = ap Number (sym m.count) ∙ sym (close_accepted v u c.args.t.count yes).1;
       back = tt;
     }

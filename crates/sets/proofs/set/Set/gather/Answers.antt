@@ -20,20 +20,20 @@ next g self u n t =
 
 pub bounds-halves-count : goal.bounds-halves-count
 bounds-halves-count g c =
-    let h = next g c.args.self.now _ _ (sym c.if-not-matches-open.ensures) in
+    let h = next g c.args.self.now _ _ (sym c.if-not-matches_open.ensures) in
     let same : length c.halves.result.now ≡ length (listed c.args.self.now.list) = ap length c.halves.ensures in
     omega (arith, h.named)
 
 pub bounds-self-count : goal.bounds-self-count
-bounds-self-count g c = let h = next g c.args.self.now _ _ (sym c.if-not-matches-open.ensures) in omega (arith, h.listed_more)
+bounds-self-count g c = let h = next g c.args.self.now _ _ (sym c.if-not-matches_open.ensures) in omega (arith, h.listed_more)
 
-pub overflow-add-self : goal.overflow-add-self
-overflow-add-self g c = let h = next g c.args.self.now _ _ (sym c.if-not-matches-open.ensures) in omega (arith, h.listed_more)
+pub overflow_add-self : goal.overflow_add-self
+overflow_add-self g c = let h = next g c.args.self.now _ _ (sym c.if-not-matches_open.ensures) in omega (arith, h.listed_more)
 
-pub invariant-of-self : goal.invariant-of-self
-invariant-of-self g c =
+pub invariant_of-self : goal.invariant_of-self
+invariant_of-self g c =
     let self = c.args.self.now in
-    let h = next g self _ _ (sym c.if-not-matches-open.ensures) in
+    let h = next g self _ _ (sym c.if-not-matches_open.ensures) in
     let at = h.unit in
     (omega (arith, h.listed_more), (λ e. omega (arith, at, e, h.some), (omega arith, (self.lost, (self.ten, (length-set self.halves c.args.t.count c.fetch.new.place ∙ self.room, tt))))))
 
@@ -47,7 +47,7 @@ returns-then-count-listed g c =
     let v = view g.V.Scheme g.S.UnitStore self in
     let n = c.args.t.count in
     let u = c.args.t.unit in
-    let yes = sym c.if-not-matches-open.ensures in
+    let yes = sym c.if-not-matches_open.ensures in
     let h = next g self u n yes in
     let entry : get_or c.halves.result.now n (0, 0) ≡ get_or v.list n (0, 0) = ap (λ l. get_or l n (0, 0)) c.halves.ensures in
     let more : n + 1 < length v.list = omega (arith, c.if-count-listed.true, c.listed.ensures) in
@@ -64,7 +64,7 @@ returns-else-count-listed g c =
     let v = view g.V.Scheme g.S.UnitStore self in
     let n = c.args.t.count in
     let u = c.args.t.unit in
-    let yes = sym c.if-not-matches-open.ensures in
+    let yes = sym c.if-not-matches_open.ensures in
     let h = next g self u n yes in
     let entry : get_or c.halves.result.now n (0, 0) ≡ get_or v.list n (0, 0) = ap (λ l. get_or l n (0, 0)) c.halves.ensures in
     let last : length v.list ≤ n + 1 = omega (arith, c.if-count-listed.false, c.listed.ensures) in

@@ -4,8 +4,8 @@ use Rattle.stores.specs.Calls.{stands_answer}
 use Rattle.sets.proofs.ReadBytes.{pattern_at}
 use Rattle.sets.proofs.set.Set.open.Goals as goal
 
-pub invariant-of-self : goal.invariant-of-self
-invariant-of-self g c =
+pub invariant_of-self : goal.invariant_of-self
+invariant_of-self g c =
     let s = g.S.UnitStore.model c.args.self.now.store in
     let u = c.args.u in (
       omega arith,
@@ -16,7 +16,7 @@ invariant-of-self g c =
           (
             λ h. ap (λ (st : List Bool). stands_in st (u - 1)) c.standing-stood.ensures ∙ pattern_at (stands_answer s) u (omega arith) (omega arith) ∙ sym c.stands.ensures ∙ c.if-stands.false,
             (
-              λ h. subst (λ (n : ℕ). 10 ≤ n) c.count-standing.ensures c.if-count-standing-lt10.false,
+              λ h. subst (λ (n : ℕ). 10 ≤ n) c.count_standing.ensures c.if-count_standing-lt10.false,
               (omega arith, tt),
             ),
           ),

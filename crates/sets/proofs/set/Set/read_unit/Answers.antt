@@ -12,23 +12,23 @@ use Rattle.sets.proofs.ReadBytes.{missing_can, read_missing}
 use Rattle.sets.proofs.Slots.{unit_true}
 use Rattle.sets.proofs.set.Set.read_unit.Goals as goal
 
-pub rebuild-bytes-requires : goal.rebuild-bytes-requires
-rebuild-bytes-requires g c =
+pub rebuild_bytes-requires : goal.rebuild_bytes-requires
+rebuild_bytes-requires g c =
     let s = g.S.UnitStore.model c.args.self.now.store in
     let u = c.args.u in
     let f = stands_answer s in
     let small = (g.S.UnitStore.sound c.args.self.now.store).small in
     record {
       can = subst (λ (st : List Bool). can_rebuild st u ≡ true) (sym c.requires.stood) (missing_can f u c.requires.low c.requires.high (unit_true u c.requires.low c.requires.high) (sym c.stands.ensures ∙ c.if-stands.false) c.requires.can);
-      room = c.fetch-all.ensures.long;
+      room = c.fetch_all.ensures.long;
       small = omega (arith, small, c.size.ensures);
       place = omega (arith, c.requires.place, c.size.ensures);
     }
 
-pub overflow-cast-result : goal.overflow-cast-result
-overflow-cast-result g c =
-    let short : length (listed c.fetch-list-list.result) ≡ c.fetch-list-list.result.len = length-take-le _ _ (omega arith) in
-    let same : length c.halves.result.now ≡ length (listed c.fetch-list-list.result) = ap length c.halves.ensures in
+pub overflow_cast-result : goal.overflow_cast-result
+overflow_cast-result g c =
+    let short : length (listed c.fetch_list-list.result) ≡ c.fetch_list-list.result.len = length-take-le _ _ (omega arith) in
+    let same : length c.halves.result.now ≡ length (listed c.fetch_list-list.result) = ap length c.halves.ensures in
     omega arith
 
 pub returns : goal.returns
@@ -37,10 +37,10 @@ returns g c =
     let s = v.store in
     let u = c.args.u in
     let out : stands_answer s u ≡ false = sym c.stands.ensures ∙ c.if-stands.false in
-    let list : listed c.fetch-list-list.result ≡ list_for (status v) u =
-    c.fetch-list-list.ensures ∙ ap₂ (λ k (st : List Bool). fetch_list_of k (stands_in st) u) c.version.ensures c.requires.stood in
+    let list : listed c.fetch_list-list.result ≡ list_for (status v) u =
+    c.fetch_list-list.ensures ∙ ap₂ (λ k (st : List Bool). fetch_list_of k (stands_in st) u) c.version.ensures c.requires.stood in
     record {
       fetched = ap length (c.halves.ensures ∙ list) ∙ sym (cond-false (stands_answer s u) _ _ out);
-      bytes = c.rebuild-bytes.ensures ∙ read_missing v u _ _ _ _ out c.size.ensures c.requires.stood list
-          (ap (λ k. map (take k) (take c.fetch-list-list.result.len c.fetch-all.new.halves)) c.size.ensures ∙ c.fetch-all.ensures.fetched);
+      bytes = c.rebuild_bytes.ensures ∙ read_missing v u _ _ _ _ out c.size.ensures c.requires.stood list
+          (ap (λ k. map (take k) (take c.fetch_list-list.result.len c.fetch_all.new.halves)) c.size.ensures ∙ c.fetch_all.ensures.fetched);
     }

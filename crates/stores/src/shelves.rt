@@ -109,9 +109,9 @@ impl<L: UnitStore, U: UnitStore> UnitStore for TwoShelf<L, U> {
 
 // Reads the first bytes of a half, as many as the place has.
 fn read_first<S: UnitStore>(s: &S, unit: u8, half: u8, place: &mut [u8]) -> Result<(), Refusal>
-    requires { length place.old ≤ (model s.now).size }
-    ensures answer { result ≡ read_answer (seen_at (length place.old) (model s.now)) unit half (length place.old) }
-    ensures place { place.new ≡ read_place (seen_at (length place.old) (model s.now)) unit half place.old }
+    requires { length place.old ≤ (S.model s.now).size }
+    ensures answer { result ≡ read_answer (seen_at (length place.old) (S.model s.now)) unit half (length place.old) }
+    ensures place { place.new ≡ read_place (seen_at (length place.old) (S.model s.now)) unit half place.old }
 {
     let mut whole = [0u8; 512];
     read_through(s, unit, half, &mut whole, place)
@@ -125,10 +125,10 @@ fn read_through<S: UnitStore>(
     room: &mut [u8],
     place: &mut [u8],
 ) -> Result<(), Refusal>
-    requires fits { length place.old ≤ (model s.now).size }
+    requires fits { length place.old ≤ (S.model s.now).size }
     requires room { length room.old ≡ 512 }
-    ensures answer { result ≡ read_answer (seen_at (length place.old) (model s.now)) unit half (length place.old) }
-    ensures place { place.new ≡ read_place (seen_at (length place.old) (model s.now)) unit half place.old }
+    ensures answer { result ≡ read_answer (seen_at (length place.old) (S.model s.now)) unit half (length place.old) }
+    ensures place { place.new ≡ read_place (seen_at (length place.old) (S.model s.now)) unit half place.old }
 {
     let n = place.len();
     let whole = &mut room[0..s.size()];
@@ -139,10 +139,10 @@ fn read_through<S: UnitStore>(
 
 // Puts two halves of n bytes, each with zeros at its end up to the store's half size.
 fn put_padded<S: UnitStore>(s: &mut S, n: usize, unit: u8, bytes: &[u8]) -> Result<(), Refusal>
-    requires fits { n ≤ (model s.old).size }
+    requires fits { n ≤ (S.model s.old).size }
     requires long { length bytes.now ≡ 2 * n }
-    ensures answer { result ≡ put_answer (model s.old) unit (2 * (model s.old).size) }
-    ensures store { model s.new ≡ shelf_put n (model s.old) unit bytes.now }
+    ensures answer { result ≡ put_answer (S.model s.old) unit (2 * (S.model s.old).size) }
+    ensures store { S.model s.new ≡ shelf_put n (S.model s.old) unit bytes.now }
 {
     let mut room = [0u8; 1024];
     put_through(s, n, unit, &mut room, bytes)
@@ -156,11 +156,11 @@ fn put_through<S: UnitStore>(
     room: &mut [u8],
     bytes: &[u8],
 ) -> Result<(), Refusal>
-    requires fits { n ≤ (model s.old).size }
+    requires fits { n ≤ (S.model s.old).size }
     requires long { length bytes.now ≡ 2 * n }
     requires room { length room.old ≡ 1024 }
-    ensures answer { result ≡ put_answer (model s.old) unit (2 * (model s.old).size) }
-    ensures store { model s.new ≡ shelf_put n (model s.old) unit bytes.now }
+    ensures answer { result ≡ put_answer (S.model s.old) unit (2 * (S.model s.old).size) }
+    ensures store { S.model s.new ≡ shelf_put n (S.model s.old) unit bytes.now }
 {
     let m = s.size();
     let whole = &mut room[0..2 * m];

@@ -36,10 +36,10 @@ fn put_lose_put(area: &mut [u8], size: usize, hop: usize, first: &[u8], second: 
 
 // From the trait alone: what was put is read, whatever the store.
 fn put_and_read<S: UnitStore>(s: &mut S, bytes: &[u8], place: &mut [u8]) -> Result<(), Refusal>
-    requires all { length bytes.now ≡ 2 * (model s.old).size }
-    requires half { length place.old ≡ (model s.old).size }
+    requires all { length bytes.now ≡ 2 * (S.model s.old).size }
+    requires half { length place.old ≡ (S.model s.old).size }
     ensures answer { result ≡ Ok tt }
-    ensures place { place.new ≡ drop (model s.old).size bytes.now }
+    ensures place { place.new ≡ drop (S.model s.old).size bytes.now }
 {
     s.put(3, bytes)?;
     s.read(3, 2, place)
@@ -50,9 +50,9 @@ fn put_and_read<S: UnitStore>(s: &mut S, bytes: &[u8], place: &mut [u8]) -> Resu
 fn four_by_two(rt: HostRuntime) {
     let mut area = [9u8; 112];
     one_put(&mut area, 4, 2, 2, &[1, 2, 3, 4, 5, 6, 7, 8]);
-    assert_eq!(rt; &area[7..17], &[9, 1, 2, 5, 6, 3, 4, 7, 8, 9]);
+    assert_eq!(rt; &area[7..17], [9, 1, 2, 5, 6, 3, 4, 7, 8, 9].as_slice());
     only_losses(&mut area, 4, 2, 2);
-    assert_eq!(rt; &area[7..17], &[9, 1, 2, 5, 6, 3, 4, 7, 8, 9]);
+    assert_eq!(rt; &area[7..17], [9, 1, 2, 5, 6, 3, 4, 7, 8, 9].as_slice());
 }
 
 #[test]

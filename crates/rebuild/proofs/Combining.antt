@@ -1,5 +1,5 @@
 -- What a tableau gives for columns and data of any kind of symbol.
-use Rattle.std.proofs.Common.{◌≡◌, ℕ, ◌+◌, ◌-◌, ◌*◌, ◌<◌, ◌≤◌, Bool, true, false, cond, ltb, List, get_or, sym, refl, ap, ◌∙◌, subst, ap₂, arith}
+use Rattle.std.proofs.Common.{◌≡◌, ℕ, ◌+◌, ◌-◌, ◌*◌, ◌<◌, Bool, true, false, cond, ltb, List, get_or, sym, refl, ap, ◌∙◌, subst, ap₂, arith}
 use lib.Bits.{bit_xor}
 use Rattle.field.specs.Arithmetic.{gmul}
 use Rattle.field.specs.Space.{Space, dot}
@@ -7,12 +7,12 @@ use Rattle.field.proofs.Dots.{dot_same, unit_right}
 use Rattle.field.proofs.DotSums.{back, dot_swap}
 use Rattle.tables.specs.Codewords.{codeword, Sound}
 use Rattle.tables.proofs.Tests.{low}
-use Rattle.codes.specs.Versions.{mixed, piggyback, first, second}
+use Rattle.codes.specs.Versions.{mixed, piggyback}
 use Rattle.codes.specs.declared.version.Version.{Version}
 use Rattle.fillings.specs.Columns.{Oks}
 use Rattle.fillings.specs.Fillings.{Fit}
 use Rattle.fillings.proofs.Codewords.{single, single_byte, row, row_byte, codeword_row, codeword_ok, codeword_single}
-use Rattle.fillings.proofs.Units.{mix, added, added_same, added_ok, first_is, second_is, second_ok}
+use Rattle.fillings.proofs.Units.{mix, added_same, added_ok, first_is, second_is, second_ok}
 use Rattle.rebuild.specs.Gathered.{first_alone, second_alone}
 use Rattle.rebuild.specs.Tableaus.{at, Solved}
 use Rattle.rebuild.proofs.Steps.{small_at}

@@ -1,26 +1,25 @@
 -- The listed halves of a filling rebuild that filling's own unit.
-use Rattle.std.proofs.Common.{◌≡◌, ℕ, zero, suc, ◌+◌, ◌-◌, ◌<◌, ◌≤◌, Bool, true, false, cond, not, ◌&&◌, T, eqb, ltb, leb, ◌≢◌, ◌⊎◌, List, [], ◌∷◌, ◌++◌, map, length, get_or, take, sym, refl, ap, ◌∙◌, subst, ap₂, inl, inr, ⊎_elim, le_of_suc-le-suc, not-suc-le-zero, eq-or-lt_of_le, arith, lit<, le→leb, eqb→eq, ltb→lt, lt→ltb}
+use Rattle.std.proofs.Common.{◌≡◌, ℕ, zero, suc, ◌+◌, ◌-◌, ◌<◌, ◌≤◌, Bool, true, false, cond, not, ◌&&◌, T, eqb, ltb, leb, ◌≢◌, ◌⊎◌, List, [], ◌∷◌, ◌++◌, map, length, take, sym, refl, ap, ◌∙◌, subst, ap₂, inl, inr, ⊎_elim, le_of_suc-le-suc, not-suc-le-zero, eq-or-lt_of_le, arith, lit<, le→leb, eqb→eq, ltb→lt, lt→ltb}
 use lib.Dec.{eqb_refl, not_T}
 use Rattle.field.specs.Arithmetic.{inverse}
 use Rattle.field.specs.Space.{Space}
 use Rattle.field.specs.Tested.{both, both_left, both_right, below, at}
-use Rattle.tables.specs.Codewords.{count, parity, codeword, Sound}
+use Rattle.tables.specs.Codewords.{count, parity, Sound}
 use Rattle.tables.specs.Multipliers.{entry}
 use Rattle.tables.specs.declared.table.Table.{Table}
-use Rattle.tables.proofs.Tests.{T_true, not_t_false, low, high}
-use Rattle.codes.specs.Lists.{half, has, without, home, short_end, short_list, lowest, wholes, long_list, has_short, is_short_for, listed_at, fetch_list_of, listed}
-use Rattle.codes.specs.Versions.{group, over, share, parity_first, parity_second, first, second, units, is_unit, Admits}
+use Rattle.tables.proofs.Tests.{T_true, low, high}
+use Rattle.codes.specs.Lists.{half, has, without, home, short_list, lowest, wholes, long_list, has_short, is_short_for, listed_at, fetch_list_of, listed}
+use Rattle.codes.specs.Versions.{group, share, parity_first, parity_second, first, second, units, Admits}
 use Rattle.codes.specs.declared.list.FetchList.{FetchList}
 use Rattle.codes.specs.declared.version.Version.{Version}
 use Rattle.codes.specs.declared.version.Version.TheVariants.{Rs, Xor, XorPlus, NonXor}
 use Rattle.fillings.specs.Columns.{Oks}
-use Rattle.fillings.specs.Rebuilding.{Rebuilt, RebuiltBy, ByShort, ByWhole, Seconds, divided, piece_at, piece}
+use Rattle.fillings.specs.Rebuilding.{Rebuilt, RebuiltBy, divided, piece_at, piece}
 use Rattle.fillings.proofs.Groups.{member_below, has_without, over_same}
-use Rattle.fillings.proofs.Rebuilding.{alone, Alone, front_second}
+use Rattle.fillings.proofs.Rebuilding.{alone, front_second}
 use Rattle.fillings.proofs.Short.{no_zero, own_piece}
 use Rattle.rebuild.specs.Gathered.{fetched_of, fetched_by}
 use Rattle.rebuild.specs.Plans.{half_symbol, stands_in, Planned}
-use Rattle.rebuild.specs.Tableaus.{Fair}
 use Rattle.rebuild.specs.declared.tableau.Tableau.{Tableau}
 
 -- whether half h of position p is listed

@@ -1,6 +1,6 @@
 -- The exchange of one basis position, over any kind of symbol.
-use Rattle.std.proofs.Common.{◌≡◌, ℕ, zero, suc, ◌+◌, ◌-◌, ◌*◌, ◌<◌, ◌≤◌, ◌≢◌, sym, refl, ap, ◌∙◌, subst, ap₂, le_of_suc-le-suc, not-suc-le-zero, arith, lit<}
-use lib.Bits.{bit_xor, xor_assoc, xor_self, xor_comm, xor_zero_l, xor_zero_r, xor_lt}
+use Rattle.std.proofs.Common.{◌≡◌, ℕ, zero, suc, ◌<◌, ◌≢◌, sym, refl, ap, ◌∙◌, ap₂, le_of_suc-le-suc, not-suc-le-zero, arith, lit<}
+use lib.Bits.{bit_xor, xor_assoc, xor_self, xor_zero_l}
 use Rattle.field.specs.Arithmetic.{gmul, inverse}
 use Rattle.field.specs.Space.{Space, dot}
 use Rattle.field.proofs.Dots.{swap4, unit_right, dot_same, dot_mix, dot_none}

@@ -1,28 +1,28 @@
 -- That nothing but what is computed is rebuilt.
-use Rattle.std.proofs.Common.{◌≡◌, ℕ, ◌+◌, ◌-◌, ◌<◌, ◌≤◌, Bool, true, false, cond, not, ◌&&◌, T, ltb, leb, List, length, get_or, Ok, Err, sym, refl, ap, ◌∙◌, subst, ap₂, arith, le→leb, eqb→eq, ltb→lt, lt→ltb, nltb→le}
+use Rattle.std.proofs.Common.{◌≡◌, ℕ, ◌-◌, ◌<◌, ◌≤◌, Bool, true, false, cond, not, ◌&&◌, T, ltb, leb, List, length, get_or, Ok, Err, sym, refl, ap, ◌∙◌, subst, ap₂, le→leb, eqb→eq, ltb→lt, lt→ltb, nltb→le}
 use Rattle.std.proofs.lemmas.List.{get_or_past}
 use Rattle.field.specs.Space.{Space, dot}
 use Rattle.field.proofs.Dots.{dot_same}
-use Rattle.tables.specs.Codewords.{count, codeword, parity, Sound}
+use Rattle.tables.specs.Codewords.{count, parity}
 use Rattle.tables.specs.Multipliers.{entry}
 use Rattle.tables.specs.declared.table.Table.{Table}
-use Rattle.tables.proofs.Tests.{T_true, not_t_false}
+use Rattle.tables.proofs.Tests.{T_true}
 use Rattle.codes.specs.Lists.{is_short_for, lowest}
-use Rattle.codes.specs.Versions.{units, first, second, parity_first, parity_second, piggyback, mixed, group, share, over, is_unit, encoded}
+use Rattle.codes.specs.Versions.{units, first, second, parity_first, parity_second, mixed, group, share, encoded}
 use Rattle.codes.specs.declared.list.FetchList.{FetchList}
 use Rattle.codes.specs.declared.refusal.Refusal.TheVariants.{NoUnit}
 use Rattle.codes.specs.declared.version.Version.{Version}
 use Rattle.fillings.specs.Columns.{Oks}
-use Rattle.fillings.specs.Fillings.{Fit, Whole}
-use Rattle.fillings.specs.Rebuilding.{Rebuilt, RebuiltBy, ByShort, ByWhole, Seconds, piece}
+use Rattle.fillings.specs.Fillings.{Fit}
+use Rattle.fillings.specs.Rebuilding.{Rebuilt, RebuiltBy, piece}
 use Rattle.fillings.proofs.Groups.{member_below, over_same}
 use Rattle.fillings.proofs.Choices.{lowest_count}
 use Rattle.fillings.proofs.Ten.{any_ten_tell}
-use Rattle.fillings.proofs.Rebuilding.{front_out, front_ten, piece_same, alone, Alone}
+use Rattle.fillings.proofs.Rebuilding.{front_out, front_ten, piece_same, alone}
 use Rattle.rebuild.specs.Data.{Solves}
 use Rattle.rebuild.specs.Plans.{stands_in, solved_at, Planned}
 use Rattle.rebuild.specs.Solvers.{Prepared}
-use Rattle.rebuild.specs.Tableaus.{at, Fair, Solved}
+use Rattle.rebuild.specs.Tableaus.{at}
 use Rattle.rebuild.specs.declared.tableau.Tableau.{Tableau}
 use Rattle.rebuild.proofs.Combining.{column_of}
 use Rattle.rebuild.proofs.Steps.{count_same}

@@ -8,9 +8,9 @@ use Rattle.field.specs.Space.{dot}
 use Rattle.field.specs.BytesSpace.{bytes}
 use Rattle.field.proofs.Dots.{dot_same}
 use Rattle.field.specs.Products.{gmul_lt, inverse_lt, gmul_zero_l, gmul_zero_r}
-use Rattle.tables.specs.Codewords.{bit, count, codeword, Bytes, Column, Law, Sound}
+use Rattle.tables.specs.Codewords.{bit, count, codeword, Bytes, Sound}
 use Rattle.tables.proofs.Counts.{count_more}
-use Rattle.tables.proofs.Tests.{T_true, low}
+use Rattle.tables.proofs.Tests.{T_true}
 use Rattle.rebuild.specs.Tableaus.{at, start_at, pivot_at, exchanged, Slot, Holds, Solved}
 use Rattle.rebuild.proofs.Exchange.{Reached}
 use Rattle.rebuild.proofs.Fill.{bit_same, bit_other, bit_byte}

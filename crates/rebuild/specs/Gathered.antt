@@ -1,5 +1,5 @@
 -- The symbols that were fetched, by the half that each is of.
-use Rattle.std.specs.Prelude.{ℕ, ◌+◌, ◌-◌, Bool, cond, ◌&&◌, List, [], ◌∷◌, ◌==◌, nat_lt}
+use Rattle.std.specs.Prelude.{ℕ, ◌+◌, ◌-◌, cond, ◌&&◌, List, [], ◌∷◌, ◌==◌, nat_lt}
 use Rattle.codes.specs.Versions.{mixed, piggyback}
 use Rattle.codes.specs.declared.version.Version.{Version}
 

@@ -1,5 +1,5 @@
 -- What the making of a plan answers.
-use Rattle.std.specs.Prelude.{◌≡◌, ℕ, ◌-◌, Bool, true, false, not, ◌&&◌, List, Ok, Err, Result, nat_lt}
+use Rattle.std.specs.Prelude.{◌≡◌, ℕ, ◌-◌, Bool, true, not, ◌&&◌, List, Ok, Err, Result, nat_lt}
 use Rattle.tables.specs.Codewords.{count}
 use Rattle.tables.specs.declared.table.Table.{Table}
 use Rattle.codes.specs.Versions.{is_unit}

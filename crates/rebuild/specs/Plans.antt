@@ -1,5 +1,5 @@
 -- What a plan to rebuild a lost unit holds, and what it gives.
-use Rattle.std.specs.Prelude.{◌≡◌, ℕ, ◌-◌, ◌<◌, ◌≤◌, Bool, true, false, cond, not, ◌&&◌, List, map, length, get_or, take, ◌==◌, nat_lt, slice_index_or}
+use Rattle.std.specs.Prelude.{◌≡◌, ℕ, ◌-◌, ◌<◌, ◌≤◌, Bool, false, cond, not, ◌&&◌, List, map, length, get_or, take, ◌==◌, nat_lt, slice_index_or}
 use Rattle.tables.specs.Codewords.{count}
 use Rattle.tables.specs.Multipliers.{entry}
 use Rattle.tables.specs.declared.table.Table.{Table}

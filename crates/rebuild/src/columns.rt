@@ -17,7 +17,7 @@ pub(crate) fn column<S: Symbol + Copy>(
     known: &[S; 14],
 ) -> [S; 10]
     requires { (k : ℕ) → k < 10 → slice_index basis.now k < 14 }
-    ensures { (k : ℕ) → k < 10 → slice_index_or result k zero ≡ dot zero sum times 10 (at entries.now k) (λ i. get_or known.now (slice_index basis.now i) zero) }
+    ensures { (k : ℕ) → k < 10 → slice_index_or result k S.zero ≡ dot S.zero S.sum S.times 10 (at entries.now k) (λ i. get_or known.now (slice_index basis.now i) S.zero) }
 {
     let chosen = at_basis(basis, known);
     let none = S::zero();

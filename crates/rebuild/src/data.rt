@@ -19,7 +19,7 @@ pub(crate) fn data_of<S: Symbol + Copy>(
     y: &[S; 14],
 ) -> ([S; 10], [S; 10])
     requires { ∥ Fair (entry table.now) (λ p. slice_index_or tableau.now.chosen p false) tableau.now.entries tableau.now.basis ∥₁ }
-    ensures { Solves ok zero sum times version (entry table.now) (λ p. slice_index_or tableau.now.chosen p false) (λ p. slice_index_or x.now p zero) (λ p. slice_index_or y.now p zero) (λ k. slice_index_or result.0 k zero) (λ k. slice_index_or result.1 k zero) }
+    ensures { Solves S.ok S.zero S.sum S.times version (entry table.now) (λ p. slice_index_or tableau.now.chosen p false) (λ p. slice_index_or x.now p S.zero) (λ p. slice_index_or y.now p S.zero) (λ k. slice_index_or result.0 k S.zero) (λ k. slice_index_or result.1 k S.zero) }
 {
     let a = column(&tableau.entries, &tableau.basis, &unmixed(version, x, y));
     let b = column(

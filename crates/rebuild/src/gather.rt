@@ -6,7 +6,7 @@ use field::symbol::Symbol;
 
 // The symbols fetched for one half of the fourteen units, zero where none was.
 pub(crate) fn by_position<S: Symbol + Copy>(list: &[(u8, u8)], fetched: &[S], half: u8) -> [S; 14]
-    ensures { (p : ℕ) → slice_index_or result p zero ≡ fetched_by zero list.now fetched.now half p }
+    ensures { (p : ℕ) → slice_index_or result p S.zero ≡ fetched_by S.zero list.now fetched.now half p }
 {
     let none = S::zero();
     let mut symbols = [none; 14];

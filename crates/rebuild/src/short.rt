@@ -19,7 +19,7 @@ pub(crate) fn piece<S: Symbol + Copy>(
     u: usize,
 ) -> S
     requires { u < 10 }
-    ensures { result ≡ piece_of zero sum times version (entry table.now) (λ p. slice_index_or x.now p zero) (λ p. slice_index_or y.now p zero) (λ k. slice_index_or b.now k zero) u }
+    ensures { result ≡ piece_of S.zero S.sum S.times version (entry table.now) (λ p. slice_index_or x.now p S.zero) (λ p. slice_index_or y.now p S.zero) (λ k. slice_index_or b.now k S.zero) u }
 {
     let l = home(version, u);
     if l == 0 {

@@ -1,4 +1,4 @@
-use Rattle.std.proofs.Common.{◌≡◌, ℕ, ◌<◌, min, length, get_or, ◌∙◌, arith, length-set, rules}
+use Rattle.std.proofs.Common.{◌≡◌, min, length, get_or, ◌∙◌, arith, length-set, rules}
 use Rattle.field.specs.Space.{dot}
 use Rattle.rebuild.specs.Tableaus.{at}
 use Rattle.rebuild.proofs.Fill.{set_more}

@@ -1,4 +1,4 @@
-use Rattle.std.proofs.Common.{◌≡◌, refl, ◌∙◌, arith, length-set}
+use Rattle.std.proofs.Common.{refl, ◌∙◌, arith, length-set}
 use Rattle.rebuild.specs.Tableaus.{at}
 use Rattle.rebuild.proofs.Fill.{set_more}
 use Rattle.rebuild.proofs.columns.row.Goals as goal

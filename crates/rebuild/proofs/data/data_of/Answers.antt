@@ -2,7 +2,6 @@ use Rattle.std.proofs.Common.{◌≡◌, ℕ, ◌<◌, get_or, ◌∙◌, rules}
 use base.Stored.{Coded-set}
 use mathlib.Core.Logic.{∥∥₁_elim}
 use native.Mathlib.Bridge.{le_prop}
-use Rattle.rebuild.specs.Tableaus.{Solved, Fair}
 use Rattle.rebuild.proofs.Combining.{first_solved, second_solved}
 use Rattle.rebuild.proofs.data.data_of.Goals as goal
 

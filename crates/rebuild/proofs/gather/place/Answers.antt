@@ -1,5 +1,5 @@
 use Rattle.std.proofs.Common.{◌∙◌, arith, length-set}
-use Rattle.rebuild.proofs.Gathering.{placed, not_placed}
+use Rattle.rebuild.proofs.Gathering.{placed}
 use Rattle.rebuild.proofs.gather.place.Goals as goal
 
 pub returns-then-unit-le14 : goal.returns-then-unit-le14

@@ -1,4 +1,4 @@
-use Rattle.std.proofs.Common.{◌≡◌, ℕ, ◌+◌, ◌<◌, ◌≤◌, Bool, false, ◌&&◌, ltb, List, length, get_or, sym, refl, ap, ◌∙◌, subst, ap₂, arith, length-set, below_more}
+use Rattle.std.proofs.Common.{◌≡◌, ℕ, ◌+◌, Bool, false, ◌&&◌, ltb, List, length, get_or, sym, ap, ◌∙◌, ap₂, arith, length-set, below_more}
 use Rattle.tables.specs.Codewords.{count}
 use Rattle.tables.proofs.Counts.{count_yes, count_no}
 use Rattle.codes.specs.Lists.{lowest}

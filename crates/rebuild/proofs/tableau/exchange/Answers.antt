@@ -1,7 +1,7 @@
-use Rattle.std.proofs.Common.{◌≡◌, ◌/◌, ◌%◌, length, get_or, sym, ap, ◌∙◌, ap₂, arith, length-set}
+use Rattle.std.proofs.Common.{◌/◌, ◌%◌, get_or, ap, ◌∙◌, ap₂, arith}
 use lib.Bits.{bit_xor}
-use Rattle.field.specs.Arithmetic.{gmul, inverse}
-use Rattle.rebuild.specs.Tableaus.{at, pivot_at, exchanged}
+use Rattle.field.specs.Arithmetic.{gmul}
+use Rattle.rebuild.specs.Tableaus.{at, exchanged}
 use Rattle.rebuild.proofs.Fill.{set_more, set_rest}
 use Rattle.rebuild.proofs.tableau.exchange.Goals as goal
 

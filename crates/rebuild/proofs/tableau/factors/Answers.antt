@@ -1,4 +1,4 @@
-use Rattle.std.proofs.Common.{length, arith, length-set}
+use Rattle.std.proofs.Common.{arith, length-set}
 use Rattle.field.specs.Arithmetic.{gmul}
 use Rattle.rebuild.specs.Tableaus.{at}
 use Rattle.rebuild.proofs.Fill.{set_more}

@@ -1,4 +1,4 @@
-use Rattle.std.proofs.Common.{◌≡◌, length, sym, ap, ◌∙◌, arith, length-set}
+use Rattle.std.proofs.Common.{◌≡◌, sym, ap, ◌∙◌, arith, length-set}
 use lib.Bits.{bit_xor, xor_zero_r}
 use Rattle.rebuild.specs.Tableaus.{at, pivot_at}
 use Rattle.rebuild.proofs.Fill.{set_more, bit_same, bit_other}

@@ -1,6 +1,5 @@
 use Rattle.std.proofs.Common.{◌≡◌, ℕ, ◌+◌, ◌<◌, Bool, false, length, get_or, sym, refl, ◌∙◌, subst, subst₂, arith, rules}
 use Rattle.tables.specs.Multipliers.{entry}
-use Rattle.rebuild.specs.Tableaus.{Slot}
 use Rattle.rebuild.proofs.Exchange.{Reached}
 use Rattle.rebuild.proofs.Steps.{begin, keep, advance, found, done}
 use Rattle.rebuild.proofs.tableau.solve.Goals as goal

@@ -1,4 +1,4 @@
-use Rattle.std.proofs.Common.{length, arith, length-set}
+use Rattle.std.proofs.Common.{arith, length-set}
 use Rattle.tables.specs.Multipliers.{entry}
 use Rattle.rebuild.specs.Tableaus.{start_at}
 use Rattle.rebuild.proofs.Fill.{set_more, set_small}

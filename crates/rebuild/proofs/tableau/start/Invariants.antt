@@ -1,4 +1,4 @@
-use Rattle.std.proofs.Common.{◌≡◌, ℕ, ◌<◌, ◌≤◌, length, get_or}
+use Rattle.std.proofs.Common.{◌≡◌, ℕ, ◌<◌, length, get_or}
 use Rattle.tables.specs.Multipliers.{entry}
 use Rattle.rebuild.specs.Tableaus.{start_at}
 use Rattle.rebuild.proofs.tableau.start.Given as goal

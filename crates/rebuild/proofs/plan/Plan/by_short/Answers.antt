@@ -1,12 +1,10 @@
-use Rattle.std.proofs.Common.{◌≡◌, ℕ, ◌-◌, ◌<◌, length, get_or, sym, ap, ◌∙◌, arith, rules}
+use Rattle.std.proofs.Common.{◌≡◌, ℕ, ◌-◌, length, get_or, sym, ap, ◌∙◌, arith, rules}
 use base.Stored.{Coded-set, coded×}
 use mathlib.Core.Logic.{∥∥₁_elim}
 use native.Mathlib.Bridge.{le_prop}
 use Rattle.std.proofs.lemmas.List.{get_or_default}
 use Rattle.tables.specs.Multipliers.{entry}
 use Rattle.fillings.specs.Rebuilding.{piece}
-use Rattle.rebuild.specs.Plans.{Planned}
-use Rattle.rebuild.specs.Tableaus.{Fair, Solved}
 use Rattle.rebuild.proofs.Planning.{only_short}
 use Rattle.rebuild.proofs.plan.Plan.by_short.Goals as goal
 

@@ -1,8 +1,8 @@
 use Rattle.std.proofs.Common.{◌-◌, ◌≤◌, sym, refl, ◌∙◌, arith}
 use mathlib.Core.Logic.{∥∥₁_elim}
 use native.Mathlib.Bridge.{le_prop}
-use Rattle.fillings.proofs.Rebuilding.{alone, Alone}
-use Rattle.rebuild.specs.Plans.{stands_in, Planned}
+use Rattle.fillings.proofs.Rebuilding.{alone}
+use Rattle.rebuild.specs.Plans.{stands_in}
 use Rattle.rebuild.proofs.plan.Plan.data_position.Goals as goal
 
 pub overflow_sub-result : goal.overflow_sub-result

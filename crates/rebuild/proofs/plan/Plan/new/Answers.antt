@@ -1,11 +1,10 @@
-use Rattle.std.proofs.Common.{◌≡◌, ℕ, ◌-◌, ◌≤◌, Bool, false, get_or, sym, refl, ap, ◌∙◌, subst, ap₂, arith, rules}
-use Rattle.tables.specs.Codewords.{count, Sound}
+use Rattle.std.proofs.Common.{◌≡◌, ℕ, ◌-◌, ◌≤◌, Bool, false, get_or, sym, ap, ◌∙◌, subst, arith}
+use Rattle.tables.specs.Codewords.{Sound}
 use Rattle.tables.specs.Multipliers.{entry}
 use Rattle.tables.specs.declared.table.Table.{Table}
-use Rattle.codes.specs.Lists.{fetch_list_of}
 use Rattle.codes.specs.Versions.{Admits}
-use Rattle.rebuild.specs.Plans.{stands_in, Planned}
-use Rattle.rebuild.specs.Tableaus.{Solved, Fair}
+use Rattle.rebuild.specs.Plans.{stands_in}
+use Rattle.rebuild.specs.Tableaus.{Solved}
 use Rattle.rebuild.proofs.Planning.{chosen_ten}
 use Rattle.rebuild.proofs.plan.Plan.new.Goals as goal
 
@@ -22,21 +21,21 @@ pub invariant_of-result : goal.invariant_of-result
 invariant_of-result g c =
     let s = c.args.scheme.now in
     let same : (p : ℕ) → get_or c.solve-tableau.result.chosen p false ≡ get_or c.solved_positions-chosen.result p false =
-    λ p. ap (λ xs. get_or xs p false) c.solve-tableau.ensures.chosen in (
-      ∣ record {
-        fair = record {
-          sound = subst (λ (t : Table). Sound (entry t)) (sym c.table-table.ensures) (g.V.Scheme.sound s);
-          solved = subst (λ (ch : ℕ → Bool). Solved (entry c.table-table.result) ch c.solve-tableau.result.entries c.solve-tableau.result.basis) (λ i p. sym (same p) i) c.solve-tableau.ensures.solved;
-        };
-        admits = subst (λ (t : Table). Admits c.version-version.result (entry t)) (sym c.table-table.ensures)
-            (subst (λ v. Admits v (entry (g.V.Scheme.table s))) (sym c.version-version.ensures) (g.met.V.Scheme.admits s));
-        low = omega arith;
-        high = omega arith;
-        missing = c.if-standing-position.false;
-        ten = subst (λ (n : ℕ). 10 ≤ n) c.count_standing.ensures c.if-count_standing-lt10.false;
-        short_is = c.is_short-short.ensures;
-        list_is = c.fetch_list-list.ensures;
-        chosen_is = λ p h. same p ∙ c.solved_positions-chosen.ensures p h;
-      } ∣₁,
-      tt,
-    )
+    λ p. ap (λ xs. get_or xs p false) c.solve-tableau.ensures.chosen in record {
+      planned =
+          ∣ record {
+            fair = record {
+              sound = subst (λ (t : Table). Sound (entry t)) (sym c.table-table.ensures) (g.V.Scheme.sound s);
+              solved = subst (λ (ch : ℕ → Bool). Solved (entry c.table-table.result) ch c.solve-tableau.result.entries c.solve-tableau.result.basis) (λ i p. sym (same p) i) c.solve-tableau.ensures.solved;
+            };
+            admits = subst (λ (t : Table). Admits c.version-version.result (entry t)) (sym c.table-table.ensures)
+                (subst (λ v. Admits v (entry (g.V.Scheme.table s))) (sym c.version-version.ensures) (g.met.V.Scheme.admits s));
+            low = omega arith;
+            high = omega arith;
+            missing = c.if-standing-position.false;
+            ten = subst (λ (n : ℕ). 10 ≤ n) c.count_standing.ensures c.if-count_standing-lt10.false;
+            short_is = c.is_short-short.ensures;
+            list_is = c.fetch_list-list.ensures;
+            chosen_is = λ p h. same p ∙ c.solved_positions-chosen.ensures p h;
+          } ∣₁;
+    }

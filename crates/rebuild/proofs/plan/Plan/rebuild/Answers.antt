@@ -1,8 +1,8 @@
 use base.Stored.{Coded-set, coded×, coded_list, coded_ℕ}
 use mathlib.Core.Logic.{∥∥₁_elim}
-use Rattle.std.proofs.Common.{◌≡◌, sym, subst}
+use Rattle.std.proofs.Common.{sym, subst}
 use Rattle.codes.specs.Lists.{listed}
-use Rattle.rebuild.specs.Plans.{stands_in, Planned, Rebuilds}
+use Rattle.rebuild.specs.Plans.{stands_in, Rebuilds}
 use Rattle.rebuild.proofs.OwnHalves.{own_listed}
 use Rattle.rebuild.proofs.plan.Plan.rebuild.Goals as goal
 

@@ -2,11 +2,10 @@ use mathlib.Core.Logic.{∥∥₁_elim}
 use Rattle.std.proofs.Common.{◌≡◌, ℕ, ◌-◌, get_or, ap, ◌∙◌, subst, subst₂, arith}
 use Rattle.tables.specs.Multipliers.{entry}
 use Rattle.codes.specs.Lists.{listed}
-use Rattle.fillings.specs.Rebuilding.{One, Rebuilt}
+use Rattle.fillings.specs.Rebuilding.{Rebuilt}
 use Rattle.fillings.proofs.Rebuilding.{rebuilt_one}
 use Rattle.rebuild.specs.Gathered.{fetched_by}
-use Rattle.rebuild.specs.Plans.{stands_in, Planned, Only}
-use Rattle.rebuild.specs.Tableaus.{Fair}
+use Rattle.rebuild.specs.Plans.{stands_in, Only}
 use Rattle.rebuild.proofs.Gathering.{by_ok}
 use Rattle.rebuild.proofs.plan.Plan.rebuild_listed.Goals as goal
 

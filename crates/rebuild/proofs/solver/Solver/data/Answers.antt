@@ -1,8 +1,6 @@
 use Rattle.std.proofs.Common.{ℕ, get_or, rules}
 use base.Stored.{Coded-set}
 use mathlib.Core.Logic.{∥∥₁_elim}
-use Rattle.fillings.specs.Fillings.{Fit}
-use Rattle.rebuild.specs.Solvers.{Prepared, TheData}
 use Rattle.rebuild.proofs.Planning.{oks_of, solves_lowest, solved_fits}
 use Rattle.rebuild.proofs.solver.Solver.data.Goals as goal
 

@@ -1,5 +1,5 @@
 -- A unit has its forms.
-use Rattle.std.proofs.Common.{◌≡◌, ℕ, ◌<◌, ◌≤◌, Bool, true, cond, ◌&&◌, T, ltb, leb, Ok, Err, ap, ◌∙◌, ap₂, arith, le→leb, lt→ltb}
+use Rattle.std.proofs.Common.{◌≡◌, ℕ, ◌≤◌, cond, ◌&&◌, ltb, leb, Ok, Err, ap, ap₂, le→leb, lt→ltb}
 use Rattle.tables.specs.declared.table.Table.{Table}
 use Rattle.tables.proofs.Tests.{T_true}
 use Rattle.codes.specs.UnitForms.{unit_form, forms_of}

@@ -1,5 +1,5 @@
 -- What is printed for a line.
-use Rattle.std.specs.Prelude.{◌≡◌, ℕ, ◌-◌, Bool, true, false, List, set, replicate, slice_index_or, slice_set}
+use Rattle.std.specs.Prelude.{◌≡◌, ℕ, ◌-◌, Bool, true, false, List, replicate, slice_index_or, slice_set}
 use Rattle.tables.specs.Multipliers.{cauchy, poly}
 use Rattle.tables.specs.declared.table.Table.{Table}
 use Rattle.codes.specs.Lists.{fetch_list_of}

@@ -49,7 +49,7 @@ impl Line {
 
 // Reads up to a newline, the end of the input or `ROOM` bytes, so that it waits for nothing behind the newline.
 pub fn read_line<S: Source>(input: &mut S) -> Line
-    ensures { Took gives input.old (take result.len result.bytes) input.new }
+    ensures { Took S.gives input.old (take result.len result.bytes) input.new }
 {
     let mut bytes = [0; ROOM];
     for len in 0..ROOM {

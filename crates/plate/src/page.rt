@@ -4,9 +4,8 @@ ghost use Rattle.plate.specs.Pages.{line_text, entry_text, page_text, text_of_re
 
 use crate::request::Refusal;
 use std::alloc::{AllocError, Global};
-use std::fmt;
 
-fn write_forms(text: &mut String, forms: &[u8]) -> fmt::Result
+fn write_forms(text: &mut String, forms: &[u8]) -> Result<(), AllocError>
     ensures { OnOk result (string_bytes text.new ≡ string_bytes text.old ++ line_text (map decimal forms.now)) }
 {
     let Some((first, rest)) = forms.split_first() else {
@@ -19,7 +18,7 @@ fn write_forms(text: &mut String, forms: &[u8]) -> fmt::Result
     writeln!(text)
 }
 
-fn write_halves(text: &mut String, halves: &[(u8, u8)]) -> fmt::Result
+fn write_halves(text: &mut String, halves: &[(u8, u8)]) -> Result<(), AllocError>
     ensures { OnOk result (string_bytes text.new ≡ string_bytes text.old ++ line_text (decimal (length halves.now) ∷ map entry_text halves.now)) }
 {
     let count = halves.len();
@@ -35,7 +34,7 @@ fn write_page(
     first: &[u8; 20],
     second: &[u8; 20],
     halves: &[(u8, u8)],
-) -> fmt::Result
+) -> Result<(), AllocError>
     ensures { OnOk result (string_bytes text.new ≡ string_bytes text.old ++ page_text first.now second.now halves.now) }
 {
     write_forms(text, first)?;
@@ -52,10 +51,8 @@ pub fn page(
     ensures { IfOk result (λ s. string_bytes s ≡ page_text first.now second.now halves.now) }
 {
     let mut text = String::new(heap);
-    match write_page(&mut text, first, second, halves) {
-        Ok(()) => Ok(text),
-        Err(_) => Err(AllocError),
-    }
+    write_page(&mut text, first, second, halves)?;
+    Ok(text)
 }
 
 pub fn refusal_text(heap: Global, refusal: Refusal) -> Result<String, AllocError>

@@ -1,4 +1,4 @@
-use Rattle.std.proofs.Common.{◌≡◌, ℕ, false, get_or, string_bytes, sym, ap, ◌∙◌, ap₂, arith}
+use Rattle.std.proofs.Common.{◌≡◌, ℕ, false, get_or, string_bytes, ◌∙◌, ap₂, arith}
 use Rattle.std.proofs.lemmas.Result.{IfOk-weaker}
 use Rattle.field.specs.declared.form.Form.{Form}
 use Rattle.codes.specs.Lists.{fetch_list_of}

@@ -6,7 +6,7 @@ use Rattle.std.proofs.lemmas.Bool.Decides.{Decides-eqb}
 
 pub returns-in_err-strip_prefix : goal.returns-in_err-strip_prefix
 returns-in_err-strip_prefix c =
-    rw c.from-residual.ensures (λ rest e. strip_prefix_is c.args.text.now c.args.word.now None c.in_err-strip_prefix.ensures.cases (codes " " ++ rest) e)
+    rw c.from_residual.ensures (λ rest e. strip_prefix_is Decides-eqb c.args.text.now c.args.word.now None c.in_err-strip_prefix.ensures.cases (codes " " ++ rest) e)
 
 pub returns : goal.returns
 returns c =

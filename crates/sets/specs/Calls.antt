@@ -1,6 +1,6 @@
 -- The calls of a set, when they are declined, and what they answer. These rules are one text for the set and for the reference model of it:
 -- they speak of what can be known of either.
-use Rattle.std.specs.Prelude.{ℕ, ◌+◌, ◌-◌, ◌*◌, Bool, cond, not, ◌&&◌, ◌||◌, List, map, length, ◌==◌, nat_le, nat_lt, slice_index_or}
+use Rattle.std.specs.Prelude.{ℕ, ◌+◌, ◌*◌, Bool, cond, not, ◌&&◌, ◌||◌, List, map, length, ◌==◌, nat_le, nat_lt, slice_index_or}
 use Rattle.std.specs.List.{range_with_len}
 use Rattle.tables.specs.Codewords.{bit, count}
 use Rattle.codes.specs.Lists.{fetch_list_of}

@@ -1,5 +1,5 @@
 -- The units of whole halves. Data is ten units in a row, rising, each its first half of h bytes and then its second.
-use Rattle.std.specs.Prelude.{ℕ, ◌+◌, ◌-◌, ◌*◌, cond, List, ◌++◌, map, bit_xor, slice_index}
+use Rattle.std.specs.Prelude.{ℕ, ◌+◌, ◌*◌, cond, List, ◌++◌, map, bit_xor, slice_index}
 use Rattle.std.specs.List.{range_with_len}
 use Rattle.field.specs.Arithmetic.{gmul}
 use Rattle.tables.specs.Codewords.{Sound}

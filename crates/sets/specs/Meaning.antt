@@ -20,7 +20,7 @@ use Rattle.sets.specs.declared.ticket.AnyTicket.TheVariants as either
 abbrev pub make : {V : Type 0} → scheme.Ghosts V → V → Make
 make g s = record { version = g.version s; table = g.table s; sound = g.sound s }
 
-abbrev pub view : {V S : Type 0} → scheme.Ghosts V → store.Ghosts S → Set V S → View
+abbrev pub view : {V S : Type 0} (g : scheme.Ghosts V) (h : store.Ghosts S) → Set V S g h → View
 view g h s = record {
   make = make g s.scheme;
   store = h.model s.store;

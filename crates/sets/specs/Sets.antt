@@ -1,5 +1,5 @@
 -- What a set holds, and for each call its answer and what the set holds after it.
-use Rattle.std.specs.Prelude.{ℕ, ◌+◌, ◌-◌, ◌*◌, Bool, false, cond, List, [], ◌∷◌, ◌++◌, map, length, replicate, ◌==◌, bit_xor, nat_le, slice_index_or}
+use Rattle.std.specs.Prelude.{ℕ, ◌-◌, ◌*◌, Bool, false, cond, List, [], ◌∷◌, ◌++◌, map, length, replicate, ◌==◌, bit_xor, nat_le, slice_index_or}
 use Rattle.std.specs.Simd.Lanes.{zip2}
 use Rattle.stores.specs.Model.{Slot, Store, missing, holds, half_of, with_slot, halves}
 use Rattle.stores.specs.Calls.{stands_answer}

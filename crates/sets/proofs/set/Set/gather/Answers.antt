@@ -13,7 +13,7 @@ use Rattle.sets.proofs.set.Set.gather.Given as given
 use Rattle.sets.proofs.set.Set.gather.Goals as goal
 
 -- the numbers of a set and of a ticket that matches it
-next : (g : given.Over) (self : Set g.row.V.Denot g.row.S.Denot) (u n : ℕ) → matches (status (view g.V.Scheme g.S.UnitStore self)) open_ticket u n ≡ true
+next : (g : given.Over) (self : Set g.row.V.Denot g.row.S.Denot g.V.Scheme g.S.UnitStore) (u n : ℕ) → matches (status (view g.V.Scheme g.S.UnitStore self)) open_ticket u n ≡ true
     → NextHalf (view g.V.Scheme g.S.UnitStore self) self.list self.count u n
 next g self u n t =
     next_half (view g.V.Scheme g.S.UnitStore self) self.list (g.S.UnitStore.model self.store).size self.count self.halves u n refl refl (omega arith) t
@@ -35,7 +35,14 @@ invariant_of-self g c =
     let self = c.args.self.now in
     let h = next g self _ _ (sym c.if-not-matches_open.ensures) in
     let at = h.unit in
-    (omega (arith, h.listed_more), (λ e. omega (arith, at, e, h.some), (omega arith, (self.lost, (self.ten, (length-set self.halves c.args.t.count c.fetch.new.place ∙ self.room, tt))))))
+    record {
+      within = omega (arith, h.listed_more);
+      nothing = λ e. omega (arith, at, e, h.some);
+      unit = omega arith;
+      lost = self.lost;
+      ten = self.ten;
+      room = length-set self.halves c.args.t.count c.fetch.new.place ∙ self.room;
+    }
 
 -- what is fetched and answered, whichever kind the ticket is then
 half_is : (v : View) (n : ℕ) (place : _) (half : ℕ × ℕ) → half ≡ get_or v.list n (0, 0) → take v.store.size place ≡ fetched v.store half → take v.store.size place ≡ fetched v.store (get_or v.list n (0, 0))

@@ -1,7 +1,7 @@
 -- The bytes of data, and of the units of a filling.
 use Rattle.std.proofs.Common.{◌≡◌, ℕ, zero, suc, ◌+◌, ◌-◌, ◌*◌, ◌<◌, ◌≤◌, List, [], ◌∷◌, map, length, get_or, sym, refl, ap, ◌∙◌, subst, ap₂, ⊎_elim, arith}
 use lib.Bits.{bit_xor}
-use Rattle.std.specs.List.{range_with_len, AllByRecursion as All}
+use Rattle.std.specs.List.{range_with_len, AllByRecursion}
 use Rattle.std.proofs.lemmas.List.FromFn.{length-map-range_with_len, get_or-map-range_with_len}
 use Rattle.std.proofs.ByRecursion.{All-get_or, All-append, All-map}
 use Rattle.std.proofs.lemmas.List.{get_or_past, length-append, get_or_append_left, get_or-append_right, take_at, drop_at}
@@ -16,12 +16,12 @@ use Rattle.stores.specs.Model.{holds, halves}
 use Rattle.sets.specs.Fillings.{Make, Data, byte_of, unit_at, first_half, second_half, unit_of, unit_bytes}
 
 -- what holds of everything holds of every element
-pub all_of : {X : Type 0} (P : X → Type 0) → ((x : X) → P x) → (xs : List X) → All P xs
+pub all_of : {X : Type 0} (P : X → Type 0) → ((x : X) → P x) → (xs : List X) → AllByRecursion P xs
 all_of P f [] = tt
 all_of P f (x ∷ xs) = (f x, all_of P f xs)
 
 -- past its end a list reads as 0
-pub get_or_small : (xs : List ℕ) → All (λ x. x < 256) xs → (i : ℕ) → get_or xs i 0 < 256
+pub get_or_small : (xs : List ℕ) → AllByRecursion (λ x. x < 256) xs → (i : ℕ) → get_or xs i 0 < 256
 get_or_small xs a i =
     ⊎_elim
     (λ (l : i < length xs). All-get_or (λ x. x < 256) xs i 0 l a)
@@ -67,7 +67,7 @@ module _ (m : Make) (h : ℕ) (d : List ℕ) (u : ℕ) where
           second_ok bytes m.version (entry m.table) m.sound.small (byte_of h d i) (byte_of h d (h + i)) ha hb (u - 1),
         )
 
-    pub row_small : All (λ x. x < 256) (unit_bytes m h d u)
+    pub row_small : AllByRecursion (λ x. x < 256) (unit_bytes m h d u)
     row_small =
         All-append (λ x. x < 256) (first_half m h d u) (second_half m h d u)
         (All-map (λ x. x < 256) (λ i. (unit_at m h d u i).0) (range_with_len 0 h) (all_of _ (λ i. (unit_small i).0) (range_with_len 0 h)))

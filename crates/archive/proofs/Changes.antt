@@ -2,7 +2,7 @@
 use Rattle.std.proofs.Common.{◌≡◌, ℕ, zero, suc, ◌+◌, ◌-◌, ◌*◌, ◌<◌, ◌≤◌, Bool, true, false, cond, eqb, List, [], ◌∷◌, map, length, get_or, replicate, sym, refl, ap, ◌∙◌, subst, ap₂, arith}
 use lib.Bits.{bit_xor, xor_lt, xor_assoc, xor_self, xor_zero_l, xor_zero_r}
 use lib.Lanes.{zip2}
-use Rattle.std.specs.List.{range_with_len, AllByRecursion as All}
+use Rattle.std.specs.List.{range_with_len, AllByRecursion}
 use Rattle.std.proofs.lemmas.Simd.{length-zip2, get_or-zip2}
 use Rattle.std.proofs.lemmas.List.{length-replicate, ext_get_or}
 use Rattle.std.proofs.lemmas.Bool.{ne_eqb, cond-false, eqb-true}
@@ -16,7 +16,7 @@ use Rattle.sets.specs.Sets.{alone, sum_units}
 use Rattle.archive.proofs.Bytes.{byte_small, same_pairs, row_length, row_halves, row_small, row_byte, data_unit}
 use Rattle.archive.proofs.Written.{written_in, byte_written, data_written, alone_written, zeros_small, zero_at}
 
-sums_small : (xs ys : List ℕ) → All (λ x. x < 256) xs → All (λ x. x < 256) ys → All (λ x. x < 256) (zip2 bit_xor xs ys)
+sums_small : (xs ys : List ℕ) → AllByRecursion (λ x. x < 256) xs → AllByRecursion (λ x. x < 256) ys → AllByRecursion (λ x. x < 256) (zip2 bit_xor xs ys)
 sums_small [] ys s t = tt
 sums_small (x ∷ xs) [] s t = tt
 sums_small (x ∷ xs) (y ∷ ys) s t = (xor_lt 8 x y s.0 t.0, sums_small xs ys s.1 t.1)

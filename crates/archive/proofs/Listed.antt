@@ -1,6 +1,6 @@
 -- Every half that is listed for a missing unit is a half of a unit that stands.
 use Rattle.std.proofs.Common.{◌≡◌, ℕ, zero, suc, ◌+◌, ◌-◌, ◌<◌, ◌≤◌, Bool, true, false, cond, not, T, eqb, List, [], ◌∷◌, sym, refl, subst, arith}
-use Rattle.std.specs.List.{AllByRecursion as All}
+use Rattle.std.specs.List.{AllByRecursion}
 use Rattle.std.proofs.ByRecursion.{All-append}
 use Rattle.std.proofs.lemmas.Bool.{eq-eqb}
 use Rattle.field.specs.Tested.{both, both_left, both_right, at}
@@ -21,11 +21,11 @@ pub record Standing (stands : ℕ → Bool) (e : ℕ × ℕ) : Type 0 where
   pub half : is_half e.1 ≡ true
   pub there : stands (e.0 - 1) ≡ true
 
-wholes_all : (P : ℕ × ℕ → Type 0) (n : ℕ) (chosen : ℕ → Bool) → ((p : ℕ) → p < n → chosen p ≡ true → P (half 1 p) × P (half 2 p)) → All P (wholes n chosen)
+wholes_all : (P : ℕ × ℕ → Type 0) (n : ℕ) (chosen : ℕ → Bool) → ((p : ℕ) → p < n → chosen p ≡ true → P (half 1 p) × P (half 2 p)) → AllByRecursion P (wholes n chosen)
 wholes_all P zero chosen f = tt
 wholes_all P (suc n) chosen f = All-append P (wholes n chosen) _ (wholes_all P n chosen (λ p l. f p (omega arith))) (go (chosen n) refl)
   where
-    go : (b : Bool) → chosen n ≡ b → All P (cond b (half 1 n ∷ half 2 n ∷ []) [])
+    go : (b : Bool) → chosen n ≡ b → AllByRecursion P (cond b (half 1 n ∷ half 2 n ∷ []) [])
     go true e = let q = f n (omega arith) e in (q.0, (q.1, tt))
     go false e = tt
 
@@ -37,7 +37,7 @@ abbrev every : {X : Type 0} → (X → Bool) → List X → Bool
 every f [] = true
 every f (e ∷ es) = both (f e) (every f es)
 
-every_all : {X : Type 0} (P : X → Type 0) (f : X → Bool) → ((e : X) → T (f e) → P e) → (es : List X) → T (every f es) → All P es
+every_all : {X : Type 0} (P : X → Type 0) (f : X → Bool) → ((e : X) → T (f e) → P e) → (es : List X) → T (every f es) → AllByRecursion P es
 every_all P f g [] t = tt
 every_all P f g (e ∷ es) t = (g e (both_left (f e) (every f es) t), every_all P f g es (both_right (f e) (every f es) t))
 
@@ -47,7 +47,7 @@ short_others Xor = at (λ u. every (other u) (short_list Xor u)) 10 tt
 short_others XorPlus = at (λ u. every (other u) (short_list XorPlus u)) 10 tt
 short_others NonXor = at (λ u. every (other u) (short_list NonXor u)) 10 tt
 
-pub listed_stand : (v : Version) (stands : ℕ → Bool) (u : ℕ) → u < 14 → stands u ≡ false → 10 ≤ count 14 stands → All (Standing stands) (listed_at v stands u)
+pub listed_stand : (v : Version) (stands : ℕ → Bool) (u : ℕ) → u < 14 → stands u ≡ false → 10 ≤ count 14 stands → AllByRecursion (Standing stands) (listed_at v stands u)
 listed_stand v stands u hu out ten = go (is_short_for v stands u) refl
   where
     chosen : (p : ℕ) → p < 14 → lowest 10 stands p ≡ true → Standing stands (half 1 p) × Standing stands (half 2 p)
@@ -57,7 +57,7 @@ listed_stand v stands u hu out ten = go (is_short_for v stands u) refl
         let w : is_unit (p + 1) ≡ true = is_unit_from (p + 1) (omega arith) (omega arith) in
         (record { unit = w; half = refl; there = s }, record { unit = w; half = refl; there = s })
 
-    go : (s : Bool) → is_short_for v stands u ≡ s → All (Standing stands) (cond s (short_list v u) (long_list stands))
+    go : (s : Bool) → is_short_for v stands u ≡ s → AllByRecursion (Standing stands) (cond s (short_list v u) (long_list stands))
     go true e =
         let a = alone v stands u e in
         every_all (Standing stands) (other u)
@@ -74,4 +74,4 @@ listed_stand v stands u hu out ten = go (is_short_for v stands u) refl
               (λ x. subst (λ (b : Bool). T (not b)) (eq-eqb (q.0 - 1) u x) n);
         })
         (short_list v u) (short_others v u a.data_unit)
-    go false e = subst (All (Standing stands)) (sym (high [] _ (count 14 stands) ten)) (wholes_all (Standing stands) 14 (lowest 10 stands) chosen)
+    go false e = subst (AllByRecursion (Standing stands)) (sym (high [] _ (count 14 stands) ten)) (wholes_all (Standing stands) 14 (lowest 10 stands) chosen)

@@ -1,7 +1,7 @@
 -- Locality: what a rebuild answers and puts rests on the listed halves alone.
 use Rattle.std.proofs.Common.{◌≡◌, ℕ, ◌+◌, ◌<◌, Bool, true, false, cond, not, ◌&&◌, eqb, ◌⊎◌, List, [], ◌∷◌, ◌++◌, map, length, get_or, sym, refl, ap, ◌∙◌, ap₂, inl, inr, ⊎_elim, arith}
 use mathlib.Core.Path.{subst⁻¹}
-use Rattle.std.specs.List.{AllByRecursion as All}
+use Rattle.std.specs.List.{AllByRecursion}
 use Rattle.std.proofs.lemmas.List.{get_or-map}
 use Rattle.std.proofs.lemmas.Bool.{and_parts, and_left, eqb-true, eqb-false, ne_eqb, ltb-true}
 use Rattle.codes.specs.Lists.{fetch_list_of}
@@ -161,7 +161,7 @@ module _ (u : ℕ) (v w : View) (b : Beside u v w) where
 abbrev AlikeRun : ℕ → View → View → List Call → Type 0
 AlikeRun u v w cs = (answers v cs ≡ answers w cs) × ((run v cs).store.unit u ≡ (run w cs).store.unit u)
 
-runs : (u : ℕ) (cs : List Call) → All Rebuilding cs → (v w : View) → Beside u v w → AlikeRun u v w cs
+runs : (u : ℕ) (cs : List Call) → AllByRecursion Rebuilding cs → (v w : View) → Beside u v w → AlikeRun u v w cs
 runs u [] r v w b = (refl, b.slot)
 runs u (c ∷ cs) r v w b =
     let now = step u v w b c r.0 in

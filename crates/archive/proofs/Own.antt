@@ -2,10 +2,10 @@
 use Rattle.std.proofs.Common.{◌≡◌, ℕ, ◌+◌, ◌-◌, ◌<◌, ◌≤◌, Bool, true, false, cond, not, eqb, leb, List, [], ◌∷◌, ◌++◌, map, length, get_or, take, replicate, sym, refl, ap, ◌∙◌, subst, ap₂, subst₂, mod-eq_of_lt, arith}
 use mathlib.Core.Path.{fun_ext}
 use lib.Bits.{bit_xor}
-use Rattle.std.specs.List.{AllByRecursion as All}
+use Rattle.std.specs.List.{AllByRecursion}
 use Rattle.std.proofs.lemmas.List.FromFn.{get_or-map-range_with_len}
 use Rattle.std.proofs.ByRecursion.{All-weaker, All-map}
-use Rattle.std.proofs.lemmas.Simd.{map_map}
+use Rattle.std.proofs.lemmas.Simd.{map-map}
 use Rattle.std.proofs.lemmas.List.{take_all, length-map, length-replicate}
 use Rattle.std.proofs.lemmas.Bool.{cond_both, and_parts, leb-true, not-true, cond-true, eq-eqb, both_ways}
 use Rattle.field.specs.Arithmetic.{gmul}
@@ -47,7 +47,7 @@ rebuilt_is m stood u x y r e h = go (can_rebuild stood u) refl e
 pub pattern_at : (due : ℕ → Bool) (u : ℕ) → is_unit u ≡ true → stands_in (pattern due) (u - 1) ≡ due u
 pattern_at due u e = pattern_entry due u (unit_low u e) (unit_high u e)
 
-same_map : {X Y : Type 0} (f g : X → Y) (xs : List X) → All (λ x. f x ≡ g x) xs → map f xs ≡ map g xs
+same_map : {X Y : Type 0} (f g : X → Y) (xs : List X) → AllByRecursion (λ x. f x ≡ g x) xs → map f xs ≡ map g xs
 same_map f g [] a = refl
 same_map f g (x ∷ xs) a = ap₂ ◌∷◌ a.0 (same_map f g xs a.1)
 
@@ -103,11 +103,11 @@ module _ (b : Book) (r : Right b) where
         let L : List (ℕ × ℕ) = listed_at b.make.version stands (u - 1) in
         let xs : List ℕ = column (map (fetched (shown_store b)) L) i in
         let col : xs ≡ map (byte_in i) L =
-        map_map (λ (z : List ℕ). get_or z i 0) (fetched (shown_store b)) L
+        map-map (λ (z : List ℕ). get_or z i 0) (fetched (shown_store b)) L
         ∙ same_map (λ (z : ℕ × ℕ). get_or (fetched (shown_store b) z) i 0) (byte_in i) L (All-weaker (Standing stands) _ (fetched_own i l) L (listed_stand b.make.version stands (u - 1) below out ten)) in
         let own : take (length L) xs ≡ map (byte_in i) L = ap (take (length L)) col ∙ take_all (length L) (map (byte_in i) L) (omega (arith, length-map L (byte_in i))) in
         let small : (k p : ℕ) → fetched_by 0 L xs k p < 256 =
-        λ k p. by_ok (λ x. x < 256) 0 (omega arith) L xs (λ j _. get_or_small xs (subst (All (λ x. x < 256)) (sym col) (All-map (λ x. x < 256) (byte_in i) L (all_of _ (byte_in_small i) L))) j) k p in
+        λ k p. by_ok (λ x. x < 256) 0 (omega arith) L xs (λ j _. get_or_small xs (subst (AllByRecursion (λ x. x < 256)) (sym col) (All-map (λ x. x < 256) (byte_in i) L (all_of _ (byte_in_small i) L))) j) k p in
         subst
         (λ (z : List (ℕ × ℕ)). rebuilt_at b.make (pattern b.due) u z (map (fetched (shown_store b)) z) i ≡ pair u i)
         (sym (missing_list b.make.version stands u low top out))

@@ -1,6 +1,6 @@
 -- A unit rebuilt from a filling's units is that filling's own.
-use Rattle.std.proofs.Common.{◌≡◌, ℕ, true, false, cond, eqb, ◌⊎◌, List, [], ◌∷◌, sym, refl, ap, ◌∙◌, subst, inl, inr, ⊎_elim}
-use Rattle.std.specs.List.{AllByRecursion as All}
+use Rattle.std.proofs.Common.{◌≡◌, ℕ, true, cond, eqb, List, [], ◌∷◌, sym, refl, ap, ◌∙◌, subst, inl, inr, ⊎_elim}
+use Rattle.std.specs.List.{AllByRecursion}
 use Rattle.std.proofs.lemmas.Bool.{cases_Bool, cond-true, cond-false, cond_both, false≢true}
 use Rattle.tables.specs.Multipliers.{entry}
 use Rattle.codes.specs.Versions.{Admits}
@@ -48,7 +48,7 @@ entered_same b (GiveUp k u n) r = record { make = refl; size = refl; contents = 
 noted_same : (b : Book) (c : Call) → Same b (entered b c) → Same b (noted b c)
 noted_same b c s = cond_both (eqb (refusal (book_status b) c) 0) (entered b c) b (Same b) (λ _. s) (λ _. record { make = refl; size = refl; contents = refl })
 
-kept_same : (b : Book) (cs : List Call) → All Rebuilding cs → Same b (kept b cs)
+kept_same : (b : Book) (cs : List Call) → AllByRecursion Rebuilding cs → Same b (kept b cs)
 kept_same b [] r = record { make = refl; size = refl; contents = refl }
 kept_same b (c ∷ cs) r =
     let one = noted_same b c (entered_same b c r.0) in
@@ -56,7 +56,7 @@ kept_same b (c ∷ cs) r =
     record { make = rest.make ∙ one.make; size = rest.size ∙ one.size; contents = rest.contents ∙ one.contents }
 
 -- a rebuild hands over no bytes
-typed : (cs : List Call) → All Rebuilding cs → All Typed cs
+typed : (cs : List Call) → AllByRecursion Rebuilding cs → AllByRecursion Typed cs
 typed [] r = tt
 typed (c ∷ cs) r = (go c r.0, typed cs r.1)
   where

@@ -3,7 +3,6 @@ use Rattle.std.proofs.Common.{◌≡◌, ℕ, ◌-◌, Bool, true, false, cond, 
 use mathlib.Core.Path.{fun_ext}
 use Rattle.std.proofs.lemmas.List.{length-map, length-take-le}
 use Rattle.std.proofs.lemmas.Bool.{and_from, and_right, not_from_false, or_cases, both_ways}
-use Rattle.tables.specs.Codewords.{count}
 use Rattle.codes.specs.Lists.{fetch_list_of}
 use Rattle.rebuild.specs.Plans.{stands_in}
 use Rattle.stores.specs.Model.{is_unit, standing, missing, half_of}

@@ -1,6 +1,6 @@
 -- A set agrees with its book: at the start, after every call, and over all runs.
 use Rattle.std.proofs.Common.{◌≡◌, ℕ, ◌*◌, Bool, true, false, cond, eqb, List, [], ◌∷◌, length, sym, refl, ap, ◌∙◌, subst, ap₂}
-use Rattle.std.specs.List.{AllByRecursion as All}
+use Rattle.std.specs.List.{AllByRecursion}
 use Rattle.std.proofs.lemmas.List.{length-replicate}
 use Rattle.std.proofs.lemmas.Bool.{cond-true, false≢true}
 use Rattle.tables.specs.Multipliers.{entry}
@@ -60,7 +60,7 @@ state_step b r c t =
 pub step : (b : Book) → Right b → (c : Call) → Typed c → (answer (shown b) c ≡ told b c) × (after (shown b) c ≡ shown (noted b c)) × Right (noted b c)
 step b r c t = let s = state_step b r c t in (answer_step b r c, s.0, s.1)
 
-pub follows : (b : Book) → Right b → (cs : List Call) → All Typed cs → (answers (shown b) cs ≡ tells b cs) × (run (shown b) cs ≡ shown (kept b cs)) × Right (kept b cs)
+pub follows : (b : Book) → Right b → (cs : List Call) → AllByRecursion Typed cs → (answers (shown b) cs ≡ tells b cs) × (run (shown b) cs ≡ shown (kept b cs)) × Right (kept b cs)
 follows b r [] t = (refl, refl, r)
 follows b r (c ∷ cs) t =
     let s = step b r c t.0 in

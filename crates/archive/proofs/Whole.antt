@@ -1,6 +1,6 @@
 -- The archive law, whole.
 use Rattle.std.proofs.Common.{◌≡◌, ℕ, ◌≤◌, eqb, List, [], ◌∷◌, sym, refl, ◌∙◌, subst, arith}
-use Rattle.std.specs.List.{AllByRecursion as All}
+use Rattle.std.specs.List.{AllByRecursion}
 use Rattle.std.proofs.lemmas.Bool.{cond_both}
 use Rattle.tables.specs.Multipliers.{entry}
 use Rattle.codes.specs.Versions.{Admits}
@@ -32,7 +32,7 @@ kept_size b [] = refl
 kept_size b (c ∷ cs) =
     kept_size (noted b c) cs ∙ cond_both (eqb (refusal (book_status b) c) 0) (entered b c) b (λ (x : Book). x.size ≡ b.size) (λ _. entered_size b c) (λ _. refl)
 
-by_the_book : (m : Make) (h : ℕ) → Admits m.version (entry m.table) → 1 ≤ h → (cs : List Call) → All Typed cs → ByTheBook m h cs
+by_the_book : (m : Make) (h : ℕ) → Admits m.version (entry m.table) → 1 ≤ h → (cs : List Call) → AllByRecursion Typed cs → ByTheBook m h cs
 by_the_book m h ad one cs t =
     let f = follows (new_book m h) (new_right m h ad) cs t in
     let b = kept (new_book m h) cs in

@@ -1,6 +1,6 @@
 -- Data of which one unit is written.
 use Rattle.std.proofs.Common.{◌≡◌, ℕ, zero, suc, ◌+◌, ◌-◌, ◌*◌, ◌<◌, ◌≤◌, cond, eqb, List, ◌++◌, length, get_or, take, drop, replicate, sym, ap, ◌∙◌, ap₂, ⊎_elim, add-mul, arith, lit<}
-use Rattle.std.specs.List.{AllByRecursion as All}
+use Rattle.std.specs.List.{AllByRecursion}
 use Rattle.std.proofs.lemmas.Nat.{mul-le}
 use Rattle.std.proofs.ByRecursion.{All-append, All-take, All-drop}
 use Rattle.std.proofs.lemmas.List.{length-append, length-take, length-take-le, length-drop, length-replicate, get_or_append_left, get_or-append_right, get_or-take, get_or-drop, get_or-replicate, get_or_past, take-replicate, drop-replicate}
@@ -54,7 +54,7 @@ module _ (h u : ℕ) (d new : List ℕ) (a : 1 ≤ u) (b : u ≤ 10) (ld : lengt
       ∙ sym (cond-false (eqb k (u - 1)) _ _ (ne_eqb k (u - 1) t)))
       (cases_eq k (u - 1))
 
-  pub data_written : All (λ x. x < 256) d → All (λ x. x < 256) new → Data h (with_unit h u d new)
+  pub data_written : AllByRecursion (λ x. x < 256) d → AllByRecursion (λ x. x < 256) new → Data h (with_unit h u d new)
   data_written s t =
       let q = ends h u a b in (
         simp (length-append, length-take, length-drop) (omega arith),
@@ -72,7 +72,7 @@ alone_written h u d a b =
     ap₂ (λ x y. x ++ (d ++ y)) (sym (take-replicate (unit_start h u) (20 * h) 0 (omega arith)))
     (ap (λ z. replicate z 0) n ∙ sym (drop-replicate (unit_start h u + 2 * h) (20 * h) 0))
 
-pub zeros_small : (n : ℕ) → All (λ x. x < 256) (replicate n 0)
+pub zeros_small : (n : ℕ) → AllByRecursion (λ x. x < 256) (replicate n 0)
 zeros_small zero = tt
 zeros_small (suc n) = (lit< tt, zeros_small n)
 

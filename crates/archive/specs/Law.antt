@@ -1,6 +1,6 @@
 -- The archive law: distance, runs and locality together.
 use Rattle.std.specs.Prelude.{◌≡◌, ℕ, suc, ◌*◌, ◌<◌, ◌≤◌, true, false, cond, ◌≢◌, ◌⊎◌, List, ◌∷◌, map, length}
-use Rattle.std.specs.List.{AllByRecursion as All}
+use Rattle.std.specs.List.{AllByRecursion}
 use Rattle.stores.specs.Model.{Store, Sound, missing, standing}
 use Rattle.sets.specs.Calls.{Call, is_data, list_for}
 use Rattle.sets.specs.Calls.Call.{Fill, Lose, Read, Change, Open, Gather, Close, GiveUp}
@@ -53,7 +53,7 @@ pub record ByTheBook (m : Make) (h : ℕ) (cs : List Call) : Type 0 where
 
 -- Runs. Whatever calls are made of a new set, in any order, with any arguments and any tickets, accepted or declined.
 abbrev pub Runs : Make → ℕ → Type 0
-Runs m h = (cs : List Call) → All Typed cs → ByTheBook m h cs
+Runs m h = (cs : List Call) → AllByRecursion Typed cs → ByTheBook m h cs
 
 -- Two sets of one make with no rebuild open, the same units missing, u among them, and equal listed halves for u.
 pub record Alike (m : Make) (h u : ℕ) (v w : View) : Type 0 where
@@ -79,14 +79,14 @@ Rebuilding (GiveUp k u n) = Unit {0}
 -- Locality. Such sets answer the open alike and all that follows of the rebuild, and hold the same unit u then, whatever their other halves hold.
 abbrev pub Locality : Make → ℕ → Type 0
 Locality m h =
-    (u : ℕ) (v w : View) → Alike m h u v w → (cs : List Call) → All Rebuilding cs
+    (u : ℕ) (v w : View) → Alike m h u v w → (cs : List Call) → AllByRecursion Rebuilding cs
     → (answers v (Open u ∷ cs) ≡ answers w (Open u ∷ cs)) × ((run v (Open u ∷ cs)).store.unit u ≡ (run w (Open u ∷ cs)).store.unit u)
 
 -- A unit rebuilt from a filling's units is that filling's own: where all standing units of a store are those of the data d, an open of u with
 -- whatever gathers, closes and give-ups leaves that unit missing or as the unit of d.
 abbrev pub RebuiltOwn : Make → ℕ → Type 0
 RebuiltOwn m h =
-    (s : Store) (d : List ℕ) (u : ℕ) → Sound s → s.size ≡ h → Data h d → Fits m s d → (cs : List Call) → All Rebuilding cs
+    (s : Store) (d : List ℕ) (u : ℕ) → Sound s → s.size ≡ h → Data h d → Fits m s d → (cs : List Call) → AllByRecursion Rebuilding cs
     → ((run (idle m s) (Open u ∷ cs)).store.unit u ≡ missing) ⊎ ((run (idle m s) (Open u ∷ cs)).store.unit u ≡ unit_of m h d u)
 
 -- Of the make of a scheme, which is a version over a base code that admits it, and of halves of one byte or more.

@@ -1,6 +1,6 @@
 -- Calls made one after the other, each continuing the work of those before, of a set and of the book.
 use Rattle.std.specs.Prelude.{◌≡◌, ℕ, ◌<◌, true, List, [], ◌∷◌}
-use Rattle.std.specs.List.{AllByRecursion as All}
+use Rattle.std.specs.List.{AllByRecursion}
 use Rattle.stores.specs.Model.{standing}
 use Rattle.sets.specs.Calls.{Call, Answer}
 use Rattle.sets.specs.Calls.Call.{Fill, Lose, Read, Change, Open, Gather, Close, GiveUp}
@@ -27,10 +27,10 @@ tells b (c ∷ cs) = told b c ∷ tells (noted b c) cs
 
 -- the bytes that a call hands over are bytes
 abbrev pub Typed : Call → Type 0
-Typed (Fill bytes) = All (λ x. x < 256) bytes
+Typed (Fill bytes) = AllByRecursion (λ x. x < 256) bytes
 Typed (Lose u) = Unit {0}
 Typed (Read u place) = Unit {0}
-Typed (Change u new) = All (λ x. x < 256) new
+Typed (Change u new) = AllByRecursion (λ x. x < 256) new
 Typed (Open u) = Unit {0}
 Typed (Gather u n) = Unit {0}
 Typed (Close u n) = Unit {0}

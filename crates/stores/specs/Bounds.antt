@@ -1,7 +1,7 @@
 -- Proofs, for the fact that every store owes, that both stores keep its bounds. There is nothing to believe here: the check reads them.
 use Rattle.std.specs.Prelude.{◌≡◌, ℕ, ◌-◌, ◌<◌, ◌≤◌, Bool, true, false, cond, ◌&&◌, List, [], ◌∷◌, map, length, take, nat_le, slice_index, slice_index_or}
 use Rattle.std.proofs.Common.{◌∙◌, ap, ⊎_elim, mod-lt, arith}
-use Rattle.std.specs.List.{AllByRecursion as All}
+use Rattle.std.specs.List.{AllByRecursion}
 use Rattle.std.proofs.lemmas.List.FromFn.{length-map-range_with_len}
 use Rattle.std.proofs.lemmas.Bool.{leb-true, and_parts, and_left, cases_Bool, cond_both, cond-false}
 use Rattle.std.proofs.lemmas.List.{length-take-le, length-map}
@@ -21,7 +21,7 @@ size_small len n h =
     (λ f. rw f (omega arith))
     (cases_Bool (nat_le 1 n && nat_le n 512))
 
-all_bytes : (xs : List ℕ) → All (λ x. x < 256) (map as_byte xs)
+all_bytes : (xs : List ℕ) → AllByRecursion (λ x. x < 256) (map as_byte xs)
 all_bytes [] = tt
 all_bytes (x ∷ xs) = (mod-lt x (omega arith), all_bytes xs)
 

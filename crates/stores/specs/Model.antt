@@ -1,6 +1,6 @@
 -- What a store holds.
 use Rattle.std.specs.Prelude.{◌≡◌, ℕ, ◌<◌, ◌≤◌, Bool, true, false, cond, ◌&&◌, List, [], length, take, drop, ◌==◌, nat_le}
-use Rattle.std.specs.List.{AllByRecursion as All}
+use Rattle.std.specs.List.{AllByRecursion}
 
 -- a unit is missing, or stands with its first and its second half
 pub data Slot : Type 0 where
@@ -28,7 +28,7 @@ half_of (holds a b) k = cond (k == 1) a b
 
 -- n bytes
 abbrev pub Bytes : ℕ → List ℕ → Type 0
-Bytes n xs = (length xs ≡ n) × All (λ x. x < 256) xs
+Bytes n xs = (length xs ≡ n) × AllByRecursion (λ x. x < 256) xs
 
 abbrev pub SlotOk : ℕ → Slot → Type 0
 SlotOk n missing = Unit {0}

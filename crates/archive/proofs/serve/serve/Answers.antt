@@ -10,8 +10,8 @@ use Rattle.archive.proofs.serve.serve.Goals as goal
 
 pub loop-i-init : goal.loop-i-init
 loop-i-init g c =
-    let e = c.new_set.ensures in
-    starts (make g.V.Scheme c.new_set.result.scheme) (g.S.UnitStore.model c.new_set.result.store).size _ (g.met.V.Scheme.admits c.new_set.result.scheme)
+    let e = c.new-set.ensures in
+    starts (make g.V.Scheme c.new-set.result.scheme) (g.S.UnitStore.model c.new-set.result.store).size _ (g.met.V.Scheme.admits c.new-set.result.scheme)
     (e ∙ sym (ap₂ new_set (ap (λ (v : View). v.make) e) (ap (λ (v : View). v.store.size) e)))
 
 pub loop-i-preserved : goal.loop-i-preserved
@@ -22,10 +22,10 @@ loop-i-preserved g c =
 pub returns : goal.returns
 returns g c =
     let h : length c.loop-i.log ≤ c.loop-i.i = omega arith in
-    let e = c.new_set.ensures in
+    let e = c.new-set.ensures in
     let v = view g.V.Scheme g.S.UnitStore c.loop-i.set in
-    let all : Following (make g.V.Scheme c.new_set.result.scheme) (g.S.UnitStore.model c.new_set.result.store).size c.loop-i.log v =
-    subst (λ (l : List Line). Following (make g.V.Scheme c.new_set.result.scheme) (g.S.UnitStore.model c.new_set.result.store).size l v) (take_all _ _ h) c.loop-i.invariant in
+    let all : Following (make g.V.Scheme c.new-set.result.scheme) (g.S.UnitStore.model c.new-set.result.store).size c.loop-i.log v =
+    subst (λ (l : List Line). Following (make g.V.Scheme c.new-set.result.scheme) (g.S.UnitStore.model c.new-set.result.store).size l v) (take_all _ _ h) c.loop-i.invariant in
     record {
       law = archive_law _ _ (g.met.V.Scheme.admits c.args.scheme);
       own = rebuilt_own _ _ (g.met.V.Scheme.admits c.args.scheme);

@@ -19,22 +19,26 @@ use stores::store::UnitStore;
 struct FewStanding;
 
 impl Run for FewStanding {
-    fn run<V: Scheme, S: UnitStore>(&self, set: &mut Set<V, S>) -> Result<(), Fail> {
+    fn run<V: Scheme, S: UnitStore>(
+        &self,
+        rt: &impl Abort,
+        set: &mut Set<V, S>,
+    ) -> Result<(), Fail> {
         let data: [u8; 80] = mixed(1);
-        assert_eq!(set.fill(&data), Ok(()));
-        lose_all(set, &[2, 9, 11, 14])?;
-        reads(set, &data, 2, 20)?;
-        reads(set, &data, 9, 20)?;
-        assert_eq!(set.lose(1), Ok(()));
-        declines_read(set, 2, Refusal::TooFew)?;
-        reads(set, &data, 10, 2)
+        assert_eq!(rt; set.fill(&data), Ok(()));
+        lose_all(rt, set, &[2, 9, 11, 14])?;
+        reads(rt, set, &data, 2, 20)?;
+        reads(rt, set, &data, 9, 20)?;
+        assert_eq!(rt; set.lose(1), Ok(()));
+        declines_read(rt, set, 2, Refusal::TooFew)?;
+        reads(rt, set, &data, 10, 2)
     }
 }
 
 // With ten standing a missing unit reads; with nine only a standing one does.
 #[test]
-fn ten_and_nine() -> Result<(), Fail> {
-    everywhere(&FewStanding)
+fn ten_and_nine(rt: HostRuntime) -> Result<(), Fail> {
+    everywhere(&rt, &FewStanding)
 }
 
 // The unit to lose, its listed halves in order, and their number.
@@ -47,18 +51,22 @@ struct Listed {
 
 impl Run for Listed {
     // The unit is changed while it is missing, so that its old bytes in the store are not its bytes any more.
-    fn run<V: Scheme, S: UnitStore>(&self, set: &mut Set<V, S>) -> Result<(), Fail> {
+    fn run<V: Scheme, S: UnitStore>(
+        &self,
+        rt: &impl Abort,
+        set: &mut Set<V, S>,
+    ) -> Result<(), Fail> {
         let mut data: [u8; 80] = mixed(2);
         let unit: [u8; 8] = mixed(3);
-        assert_eq!(set.fill(&data), Ok(()));
-        assert_eq!(set.lose(self.u), Ok(()));
-        assert_eq!(set.change(self.u, &unit), Ok(4));
+        assert_eq!(rt; set.fill(&data), Ok(()));
+        assert_eq!(rt; set.lose(self.u), Ok(()));
+        assert_eq!(rt; set.change(self.u, &unit), Ok(4));
         replace_unit(&mut data, self.u, &unit);
-        reads(set, &data, self.u, self.count)?;
+        reads(rt, set, &data, self.u, self.count)?;
         let Rebuilt { halves, closed } = rebuild(set, self.u)?;
-        assert_eq!(halves, self.halves);
-        assert_eq!(closed, self.count);
-        reads(set, &data, self.u, 2)
+        assert_eq!(rt; halves, self.halves);
+        assert_eq!(rt; closed, self.count);
+        reads(rt, set, &data, self.u, 2)
     }
 }
 
@@ -183,78 +191,86 @@ fn ten_by_all() -> Listed {
 }
 
 #[test]
-fn listed_halves() -> Result<(), Fail> {
-    over_both(&ten_by_all(), Rs(Cauchy::new()))?;
-    over_both(&ten_by_all(), Rs(Poly::new()))?;
-    over_both(&two_by_group(), Xor(Cauchy::new()))?;
-    over_both(&two_by_group(), Xor(Poly::new()))?;
-    over_both(&two_by_group(), NonXor(Cauchy::new()))?;
-    over_both(&two_by_group(), NonXor(Poly::new()))?;
-    over_both(&two_by_group(), XorPlus(Cauchy::new()))?;
-    over_both(&ten_by_group(), Xor(Cauchy::new()))?;
-    over_both(&ten_by_group(), Xor(Poly::new()))?;
-    over_both(&ten_by_parities(), NonXor(Cauchy::new()))?;
-    over_both(&ten_by_parities(), NonXor(Poly::new()))?;
-    over_both(&ten_by_parities(), XorPlus(Cauchy::new()))
+fn listed_halves(rt: HostRuntime) -> Result<(), Fail> {
+    over_both(&rt, &ten_by_all(), Rs(Cauchy::new()))?;
+    over_both(&rt, &ten_by_all(), Rs(Poly::new()))?;
+    over_both(&rt, &two_by_group(), Xor(Cauchy::new()))?;
+    over_both(&rt, &two_by_group(), Xor(Poly::new()))?;
+    over_both(&rt, &two_by_group(), NonXor(Cauchy::new()))?;
+    over_both(&rt, &two_by_group(), NonXor(Poly::new()))?;
+    over_both(&rt, &two_by_group(), XorPlus(Cauchy::new()))?;
+    over_both(&rt, &ten_by_group(), Xor(Cauchy::new()))?;
+    over_both(&rt, &ten_by_group(), Xor(Poly::new()))?;
+    over_both(&rt, &ten_by_parities(), NonXor(Cauchy::new()))?;
+    over_both(&rt, &ten_by_parities(), NonXor(Poly::new()))?;
+    over_both(&rt, &ten_by_parities(), XorPlus(Cauchy::new()))
 }
 
 #[derive(Drop)]
 struct Changes;
 
 impl Run for Changes {
-    fn run<V: Scheme, S: UnitStore>(&self, set: &mut Set<V, S>) -> Result<(), Fail> {
+    fn run<V: Scheme, S: UnitStore>(
+        &self,
+        rt: &impl Abort,
+        set: &mut Set<V, S>,
+    ) -> Result<(), Fail> {
         let mut data: [u8; 80] = mixed(4);
         let one: [u8; 8] = mixed(5);
         let three: [u8; 8] = mixed(6);
-        assert_eq!(set.fill(&data), Ok(()));
-        assert_eq!(set.change(1, &three), Ok(5));
-        lose_all(set, &[12])?;
-        assert_eq!(set.change(1, &one), Ok(4));
-        lose_all(set, &[3])?;
-        assert_eq!(set.change(3, &three), Ok(3));
+        assert_eq!(rt; set.fill(&data), Ok(()));
+        assert_eq!(rt; set.change(1, &three), Ok(5));
+        lose_all(rt, set, &[12])?;
+        assert_eq!(rt; set.change(1, &one), Ok(4));
+        lose_all(rt, set, &[3])?;
+        assert_eq!(rt; set.change(3, &three), Ok(3));
         replace_unit(&mut data, 1, &one);
         replace_unit(&mut data, 3, &three);
-        reads(set, &data, 1, 2)?;
-        reads(set, &data, 3, 20)?;
+        reads(rt, set, &data, 1, 2)?;
+        reads(rt, set, &data, 3, 20)?;
         // a read of unit 3 then goes by the rebuilt parity alone
-        assert_eq!(rebuild(set, 12)?.closed, 20);
-        lose_all(set, &[11, 13, 14])?;
-        reads(set, &data, 3, 20)?;
-        assert_eq!(set.change(3, &one), Ok(1));
+        assert_eq!(rt; rebuild(set, 12)?.closed, 20);
+        lose_all(rt, set, &[11, 13, 14])?;
+        reads(rt, set, &data, 3, 20)?;
+        assert_eq!(rt; set.change(3, &one), Ok(1));
         replace_unit(&mut data, 3, &one);
-        reads(set, &data, 3, 20)
+        reads(rt, set, &data, 3, 20)
     }
 }
 
 // How many units a change puts, and what is read and rebuilt after it.
 #[test]
-fn changing() -> Result<(), Fail> {
-    everywhere(&Changes)
+fn changing(rt: HostRuntime) -> Result<(), Fail> {
+    everywhere(&rt, &Changes)
 }
 
 #[derive(Drop)]
 struct Order;
 
 impl Run for Order {
-    fn run<V: Scheme, S: UnitStore>(&self, set: &mut Set<V, S>) -> Result<(), Fail> {
+    fn run<V: Scheme, S: UnitStore>(
+        &self,
+        rt: &impl Abort,
+        set: &mut Set<V, S>,
+    ) -> Result<(), Fail> {
         let data: [u8; 80] = mixed(7);
-        assert_eq!(set.fill(&data), Ok(()));
-        lose_all(set, &[2, 5, 11, 14])?;
+        assert_eq!(rt; set.fill(&data), Ok(()));
+        lose_all(rt, set, &[2, 5, 11, 14])?;
         let t = set.open(2)?;
-        let result = declined_while_open(set, &data);
+        let result = declined_while_open(rt, set, &data);
         let ended = set.give_up(AnyTicket::Open(t));
         result?;
-        assert_eq!(ended, Ok(()));
-        assert_eq!(set.lose(6), Ok(()));
-        declined_below_ten(set, &data)?;
-        reads(set, &data, 1, 2)
+        assert_eq!(rt; ended, Ok(()));
+        assert_eq!(rt; set.lose(6), Ok(()));
+        declined_below_ten(rt, set, &data)?;
+        reads(rt, set, &data, 1, 2)
     }
 }
 
 // The first reason decides.
 #[test]
-fn order_of_refusals() -> Result<(), Fail> {
-    everywhere(&Order)
+fn order_of_refusals(rt: HostRuntime) -> Result<(), Fail> {
+    everywhere(&rt, &Order)
 }
 
 // The number that an opening is declined with; 0 where it is not, and the ticket given up again.
@@ -270,40 +286,42 @@ fn open_declined<V: Scheme, S: UnitStore>(set: &mut Set<V, S>, u: u8) -> u8 {
 
 // A rebuild of unit 2 is open, and ten units stand.
 fn declined_while_open<V: Scheme, S: UnitStore>(
+    rt: &impl Abort,
     set: &mut Set<V, S>,
     data: &[u8],
 ) -> Result<(), Fail> {
-    assert_eq!(set.fill(&[1; 79]), Err(Refusal::WrongLength));
-    assert_eq!(set.fill(&[1; 80]), Err(Refusal::RebuildOpen));
-    assert_eq!(set.lose(0), Err(Refusal::NoUnit));
-    assert_eq!(set.lose(15), Err(Refusal::NoUnit));
-    assert_eq!(set.lose(2), Err(Refusal::RebuildOpen));
-    assert_eq!(set.change(11, &[1; 7]), Err(Refusal::NoUnit));
-    assert_eq!(set.change(2, &[1; 7]), Err(Refusal::WrongLength));
-    assert_eq!(set.change(2, &[1; 8]), Err(Refusal::RebuildOpen));
-    assert_eq!(open_declined(set, 15), 1);
-    assert_eq!(open_declined(set, 2), 6);
-    assert_eq!(open_declined(set, 1), 6);
-    reads(set, data, 2, 20)?;
-    reads(set, data, 1, 2)
+    assert_eq!(rt; set.fill(&[1; 79]), Err(Refusal::WrongLength));
+    assert_eq!(rt; set.fill(&[1; 80]), Err(Refusal::RebuildOpen));
+    assert_eq!(rt; set.lose(0), Err(Refusal::NoUnit));
+    assert_eq!(rt; set.lose(15), Err(Refusal::NoUnit));
+    assert_eq!(rt; set.lose(2), Err(Refusal::RebuildOpen));
+    assert_eq!(rt; set.change(11, &[1; 7]), Err(Refusal::NoUnit));
+    assert_eq!(rt; set.change(2, &[1; 7]), Err(Refusal::WrongLength));
+    assert_eq!(rt; set.change(2, &[1; 8]), Err(Refusal::RebuildOpen));
+    assert_eq!(rt; open_declined(set, 15), 1);
+    assert_eq!(rt; open_declined(set, 2), 6);
+    assert_eq!(rt; open_declined(set, 1), 6);
+    reads(rt, set, data, 2, 20)?;
+    reads(rt, set, data, 1, 2)
 }
 
 // Nine units stand, among them 1.
 fn declined_below_ten<V: Scheme, S: UnitStore>(
+    rt: &impl Abort,
     set: &mut Set<V, S>,
     data: &[u8],
 ) -> Result<(), Fail> {
-    declines_short_read(set, 0, Refusal::NoUnit)?;
-    declines_short_read(set, 11, Refusal::NoUnit)?;
-    declines_short_read(set, 2, Refusal::WrongLength)?;
-    declines_read(set, 2, Refusal::TooFew)?;
-    assert_eq!(set.change(0, &[1; 7]), Err(Refusal::NoUnit));
-    assert_eq!(set.change(1, &[1; 7]), Err(Refusal::WrongLength));
-    assert_eq!(set.change(1, &[1; 8]), Err(Refusal::TooFew));
-    assert_eq!(open_declined(set, 0), 1);
-    assert_eq!(open_declined(set, 1), 8);
-    assert_eq!(open_declined(set, 2), 5);
-    reads(set, data, 1, 2)
+    declines_short_read(rt, set, 0, Refusal::NoUnit)?;
+    declines_short_read(rt, set, 11, Refusal::NoUnit)?;
+    declines_short_read(rt, set, 2, Refusal::WrongLength)?;
+    declines_read(rt, set, 2, Refusal::TooFew)?;
+    assert_eq!(rt; set.change(0, &[1; 7]), Err(Refusal::NoUnit));
+    assert_eq!(rt; set.change(1, &[1; 7]), Err(Refusal::WrongLength));
+    assert_eq!(rt; set.change(1, &[1; 8]), Err(Refusal::TooFew));
+    assert_eq!(rt; open_declined(set, 0), 1);
+    assert_eq!(rt; open_declined(set, 1), 8);
+    assert_eq!(rt; open_declined(set, 2), 5);
+    reads(rt, set, data, 1, 2)
 }
 
 // Fills, loses five units, and has calls declined or not; the area behind that.
@@ -327,10 +345,10 @@ fn filled_and_declined<V: Scheme, S: UnitStore>(
 ) -> Result<(), Fail> {
     let data: [u8; 80] = mixed(8);
     assert_eq!(rt; set.fill(&data), Ok(()));
-    lose_all(set, &[2, 5, 11, 14])?;
+    lose_all(rt, set, &[2, 5, 11, 14])?;
     let t = set.open(2)?;
     let result = if declined {
-        declined_while_open(set, &data)
+        declined_while_open(rt, set, &data)
     } else {
         Ok(())
     };
@@ -339,7 +357,7 @@ fn filled_and_declined<V: Scheme, S: UnitStore>(
     assert_eq!(rt; ended, Ok(()));
     assert_eq!(rt; set.lose(6), Ok(()));
     if declined {
-        declined_below_ten(set, &data)
+        declined_below_ten(rt, set, &data)
     } else {
         Ok(())
     }

@@ -17,6 +17,7 @@ use stores::store::UnitStore;
 trait Exchange {
     fn run<V: Scheme, S: UnitStore, W: Scheme, T: UnitStore>(
         &self,
+        rt: &impl Abort,
         one: &mut Set<V, S>,
         two: &mut Set<W, T>,
     ) -> Result<(), Fail>;
@@ -52,7 +53,7 @@ fn fill_and_run<E: Exchange, V: Scheme, S: UnitStore, W: Scheme, T: UnitStore>(
     assert_eq!(rt; two.fill(&data), Ok(()));
     assert_eq!(rt; one.lose(2), Ok(()));
     assert_eq!(rt; two.lose(2), Ok(()));
-    exchange.run(one, two)
+    exchange.run(rt, one, two)
 }
 
 // Opens a rebuild in both sets.
@@ -100,10 +101,11 @@ struct OtherNumbers;
 impl Exchange for OtherNumbers {
     fn run<V: Scheme, S: UnitStore, W: Scheme, T: UnitStore>(
         &self,
+        rt: &impl Abort,
         one: &mut Set<V, S>,
         two: &mut Set<W, T>,
     ) -> Result<(), Fail> {
-        assert_eq!(two.lose(3), Ok(()));
+        assert_eq!(rt; two.lose(3), Ok(()));
         let (mine, other) = open_both(one, 2, two, 3)?;
         let (refused, other) = gather(one, other);
         let kept = numbers(&other);
@@ -111,15 +113,15 @@ impl Exchange for OtherNumbers {
         let (half, mine) = gather(one, mine);
         let counted = numbers(&mine);
         let ended = one.give_up(mine);
-        assert_eq!(refused, (0, 0));
-        assert_eq!(kept, (0, 3, 0));
-        assert_eq!(given_up, Err(Refusal::WrongTicket));
-        assert_eq!(half, (1, 2));
-        assert_eq!(counted, (0, 2, 1));
-        assert_eq!(ended, Ok(()));
+        assert_eq!(rt; refused, (0, 0));
+        assert_eq!(rt; kept, (0, 3, 0));
+        assert_eq!(rt; given_up, Err(Refusal::WrongTicket));
+        assert_eq!(rt; half, (1, 2));
+        assert_eq!(rt; counted, (0, 2, 1));
+        assert_eq!(rt; ended, Ok(()));
         // no ticket is left of the rebuild in the second set, which stays open
-        assert_eq!(two.lose(1), Err(Refusal::RebuildOpen));
-        assert_eq!(one.lose(1), Ok(()));
+        assert_eq!(rt; two.lose(1), Err(Refusal::RebuildOpen));
+        assert_eq!(rt; one.lose(1), Ok(()));
         Ok(())
     }
 }
@@ -136,6 +138,7 @@ struct SameNumbers;
 impl Exchange for SameNumbers {
     fn run<V: Scheme, S: UnitStore, W: Scheme, T: UnitStore>(
         &self,
+        rt: &impl Abort,
         one: &mut Set<V, S>,
         two: &mut Set<W, T>,
     ) -> Result<(), Fail> {
@@ -146,10 +149,10 @@ impl Exchange for SameNumbers {
         let other = gather_some(one, other, 20);
         let mine = gather_some(two, mine, 20);
         let closed = (close(one, other), close(two, mine));
-        assert_eq!(taken, (1, 2));
-        assert_eq!(stale, (0, 0));
-        assert_eq!(crossed, (1, 1));
-        assert_eq!(closed, (13, 20));
+        assert_eq!(rt; taken, (1, 2));
+        assert_eq!(rt; stale, (0, 0));
+        assert_eq!(rt; crossed, (1, 1));
+        assert_eq!(rt; closed, (13, 20));
         Ok(())
     }
 }
@@ -166,6 +169,7 @@ struct KeptOverGiveUp;
 impl Exchange for KeptOverGiveUp {
     fn run<V: Scheme, S: UnitStore, W: Scheme, T: UnitStore>(
         &self,
+        rt: &impl Abort,
         one: &mut Set<V, S>,
         two: &mut Set<W, T>,
     ) -> Result<(), Fail> {
@@ -176,12 +180,12 @@ impl Exchange for KeptOverGiveUp {
         let (of_three, kept) = reopened(one, 3, kept);
         let (of_two, kept) = reopened(one, 2, kept);
         let ended = one.give_up(kept);
-        assert_eq!(given_up, Ok(()));
-        assert_eq!(idle, (0, 0));
-        assert_eq!(lost, Ok(()));
-        assert_eq!(of_three, ((0, 0), Ok(())));
-        assert_eq!(of_two, ((1, 1), Err(Refusal::WrongTicket)));
-        assert_eq!(ended, Ok(()));
+        assert_eq!(rt; given_up, Ok(()));
+        assert_eq!(rt; idle, (0, 0));
+        assert_eq!(rt; lost, Ok(()));
+        assert_eq!(rt; of_three, ((0, 0), Ok(())));
+        assert_eq!(rt; of_two, ((1, 1), Err(Refusal::WrongTicket)));
+        assert_eq!(rt; ended, Ok(()));
         Ok(())
     }
 }
@@ -214,6 +218,7 @@ struct WrongKind;
 impl Exchange for WrongKind {
     fn run<V: Scheme, S: UnitStore, W: Scheme, T: UnitStore>(
         &self,
+        rt: &impl Abort,
         one: &mut Set<V, S>,
         two: &mut Set<W, T>,
     ) -> Result<(), Fail> {
@@ -226,11 +231,11 @@ impl Exchange for WrongKind {
         let (next, other) = gather(two, other);
         let other = gather_some(two, other, 20);
         let idle = close_in_turn(one, two, other);
-        assert_eq!(both, ((1, 2, 13), (0, 2, 13)));
-        assert_eq!(refused, (0, 0));
-        assert_eq!(closed, (7, 13));
-        assert_eq!(next, (8, 2));
-        assert_eq!(idle, (7, 20));
+        assert_eq!(rt; both, ((1, 2, 13), (0, 2, 13)));
+        assert_eq!(rt; refused, (0, 0));
+        assert_eq!(rt; closed, (7, 13));
+        assert_eq!(rt; next, (8, 2));
+        assert_eq!(rt; idle, (7, 20));
         Ok(())
     }
 }

@@ -6,7 +6,7 @@
 
 It shares nothing with the proved code: products bit by bit, parities of POLY by long division, versions, lists
 and the calls of a set written from the documents, lost units by elimination among the forms of the fetched
-halves. The stored outputs under crates/ were made with it.
+halves. The stored output of archive_walk was made with it.
 """
 import functools
 import sys
@@ -424,7 +424,7 @@ def refusals(data):
     return out
 
 
-def walkthrough():
+def archive_walk():
     parts = sets_of(RECORDING)
     zeros = sum(map(len, parts)) - len(RECORDING)
     out = [f"A recording of {len(RECORDING)} bytes, kept in sets of at most 10240 bytes: {len(parts)} in all.",
@@ -447,6 +447,6 @@ def walkthrough():
 
 if __name__ == "__main__":
     if sys.argv[1] == "archive_walk":
-        print(walkthrough())
+        print(archive_walk())
     else:
         print(plate(sys.argv[2], sys.argv[3], int(sys.argv[4])))

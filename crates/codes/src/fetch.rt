@@ -2,7 +2,7 @@
 ghost use Rattle.std.specs.Prelude.{◌≡◌, ◌+◌, ◌-◌, ◌<◌, ◌≤◌, false, [], ◌∷◌, ◌++◌, map, length, slice_index_or};
 ghost use Rattle.tables.specs.Codewords.{count};
 ghost use Rattle.tables.specs.Multipliers.{upto};
-ghost use Rattle.codes.specs.Lists.{listed, without, wholes, half as half_of, lowest, home as HomeOf, short_end, short_list, fetch_list_of as fetch_of, has_short as short_in, listed_at, long_list, is_short_for as short_at};
+ghost use Rattle.codes.specs.Lists.{listed, without, wholes, half as half_of, lowest, home as home_of, short_end, short_list, fetch_list_of as fetch_of, has_short as short_in, listed_at, long_list, is_short_for as short_at};
 
 use crate::encode::span;
 use crate::list::FetchList;
@@ -80,7 +80,7 @@ impl FetchList {
 
 // The parity whose group has the data position u; 0 where none has.
 pub fn home(version: Version, u: usize) -> u8
-    ensures value { result ≡ HomeOf version u }
+    ensures value { result ≡ home_of version u }
     ensures bound { result < 4 }
 {
     let end = match version {

@@ -10,4 +10,4 @@ area_meaning s = area_store s.size s.hop s.present s.area.now
 
 -- from what each shelf holds
 abbrev pub two_meaning : {L U : Type 0} → (L → Store) → (U → Store) → TwoShelf L U → Store
-two_meaning lower-model upper-model s = two_shelves (lower-model s.lower) (upper-model s.upper)
+two_meaning lower_model upper_model s = two_shelves (lower_model s.lower) (upper_model s.upper)

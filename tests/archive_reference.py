@@ -1,121 +1,12 @@
 #!/usr/bin/env python3
-"""A second, plain reading of docs/: it prints what the programs must print.
+"""A second, plain reading of docs/: it prints what archive_walk must print.
 
-    archive_reference.py archive_walk  the whole output of the walk through the archive
-    archive_reference.py plate VERSION CODE U  the plate's answer to one line
+    archive_reference.py
 
-It shares nothing with the proved code: products bit by bit, parities of POLY by long division, versions, lists
-and the calls of a set written from the documents, lost units by elimination among the forms of the fetched
-halves. The stored output of archive_walk was made with it.
+Units, lists and elimination are those of reference.py; the calls of a set are written from the documents. Like that page it
+shares nothing with the proved code. The stored output of archive_walk was made with it.
 """
-import functools
-import sys
-
-
-@functools.lru_cache(maxsize=None)
-def mul(a, b):
-    p = 0
-    for i in range(8):
-        if b >> i & 1:
-            p ^= a << i
-    for i in range(14, 7, -1):
-        if p >> i & 1:
-            p ^= 285 << (i - 8)
-    return p
-
-
-@functools.lru_cache(maxsize=None)
-def inv(a):
-    return next((b for b in range(256) if mul(a, b) == 1), 0)
-
-
-def cauchy(l, j):
-    return mul(11 ^ (j - 1), inv((9 + l) ^ (j - 1)))
-
-
-def poly(l, j):
-    word = [0] * 14
-    word[j - 1] = 1
-    for i in range(10):
-        q = word[i]
-        for k, g in enumerate([1, 15, 54, 120, 64]):
-            word[i + k] ^= mul(q, g)
-    return word[9 + l]
-
-
-CODES = {"CAUCHY": cauchy, "POLY": poly}
-GROUPS = {
-    "RS": {},
-    "XOR": {12: [1, 2, 3], 13: [4, 5, 6], 14: [7, 8, 9, 10]},
-    "XOR+": {12: [1, 2, 3], 13: [4, 5, 6], 14: [7, 8, 9]},
-    "NONXOR": {12: [1, 2, 3], 13: [4, 5, 6], 14: [7, 8, 9]},
-}
-
-
-def unit_form(version, code, u):
-    """The two forms of unit u: twenty multipliers each."""
-    c = CODES[code]
-    zero = [0] * 20
-    if u <= 10:
-        first, second = zero[:], zero[:]
-        first[u - 1] = 1
-        second[9 + u] = 1
-        return first, second
-    l = u - 10
-    first, second = zero[:], zero[:]
-    for j in range(1, 11):
-        first[j - 1] = c(l, j)
-        second[9 + j] = c(l, j)
-    for j in GROUPS[version].get(u, []):
-        second[j - 1] ^= c(2, j) if version == "NONXOR" else 1
-    if u == 12 and version in ("XOR+", "NONXOR"):
-        first = [x ^ y for x, y in zip(first, second)]
-    return first, second
-
-
-def fetched(version, u, missing):
-    """The listed halves for the missing unit u."""
-    standing = [v for v in range(1, 15) if v not in missing]
-    if version != "RS" and u <= 10 and len(standing) == 13:
-        listed = [(v, 2) for v in range(1, 12) if v != u]
-        for parity, group in GROUPS[version].items():
-            if u in group:
-                return listed + [(parity, 2)] + [(v, 1) for v in group if v != u]
-        return listed + [(13, 2), (14, 2), (12, 1)]
-    if len(standing) < 10:
-        return []
-    return [(v, h) for v in standing[:10] for h in (1, 2)]
-
-
-def halves(listed):
-    return "".join(f" {u}.{h}" for u, h in listed)
-
-
-def plate(version, code, u):
-    first, second = unit_form(version, code, u)
-    listed = fetched(version, u, [u])
-    return "\n".join([" ".join(map(str, first)), " ".join(map(str, second)), f"{len(listed)}{halves(listed)}"])
-
-
-def cleared(row, pivots):
-    """The row, a form and its bytes, without what the pivot rows can take out of it."""
-    for place, pivot in pivots:
-        factor = row[place]
-        if factor:
-            row = [x ^ mul(factor, y) for x, y in zip(row, pivot)]
-    return row
-
-
-def eliminated(rows):
-    """Pivot rows of the given rows, each with 1 in its own place."""
-    pivots = []
-    for row in rows:
-        row = cleared(row, pivots)
-        place = next((k for k in range(20) if row[k]), None)
-        if place is not None:
-            by = inv(row[place])
-            pivots.append((place, [mul(by, x) for x in row]))
-    return pivots
+from reference import cleared, eliminated, fetched, halves, mul, unit_form
 
 
 class Declined(Exception):
@@ -446,7 +337,4 @@ def archive_walk():
 
 
 if __name__ == "__main__":
-    if sys.argv[1] == "archive_walk":
-        print(archive_walk())
-    else:
-        print(plate(sys.argv[2], sys.argv[3], int(sys.argv[4])))
+    print(archive_walk())

@@ -87,9 +87,9 @@ fn twenty_bytes(at: &[u8])
 fn xor_rows(x: &[u8; 20], y: &[u8; 20]) -> [u8; 20]
     ensures { result ≡ zip2 bit_xor x.now y.now }
 {
-    let mut at = [0u8; 20];
-    for i in 0..20usize {
-        at[i] = x[i] ^ y[i];
+    let mut at = *x;
+    for (byte, other) in at.iter_mut().zip(y) {
+        *byte ^= *other;
     }
     at
 }
@@ -98,9 +98,5 @@ fn xor_rows(x: &[u8; 20], y: &[u8; 20]) -> [u8; 20]
 fn scale_row(c: u8, x: &[u8; 20]) -> [u8; 20]
     ensures { result ≡ map (gmul c) x.now }
 {
-    let mut at = [0u8; 20];
-    for i in 0..20usize {
-        at[i] = crate::mul(c, x[i]);
-    }
-    at
+    x.map(|byte| crate::mul(c, byte))
 }

@@ -1,0 +1,17 @@
+// Which unit a number names.
+ghost use Rattle.units.specs.Numbers.{Names};
+
+use crate::number::{NoUnit, UnitNumber};
+
+impl TryFrom<u8> for UnitNumber {
+    type Error = NoUnit;
+
+    ghost try_from_gives = { Names };
+
+    fn try_from(number: u8) -> Result<UnitNumber, NoUnit> {
+        match number {
+            1..=14 => Ok(UnitNumber { number }),
+            _ => Err(NoUnit),
+        }
+    }
+}

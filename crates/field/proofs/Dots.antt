@@ -1,22 +1,11 @@
 -- Sums of products, of any kind of symbol.
-use Rattle.std.proofs.Common.{◌≡◌, ℕ, zero, suc, ◌+◌, ◌-◌, ◌<◌, ◌≤◌, sym, refl, ap, ◌∙◌, ap₂, arith}
+use Rattle.std.proofs.Common.{◌≡◌, ℕ, zero, suc, ◌+◌, ◌-◌, ◌<◌, ◌≤◌, ◌⊎◌, List, [], ◌∷◌, length, get_or, suc-ne-zero, inl, inr, sym, refl, ap, ◌∙◌, ap₂, arith}
 use lib.Bits.{bit_xor}
+use Rattle.std.specs.List.{zip, fold}
 use Rattle.field.specs.Arithmetic.{gmul}
 use Rattle.field.specs.Space.{Space, dot}
 
 module _ {S : Type 0} (none : S) (sum : S → S → S) (times : ℕ → S → S) where
-  -- one product more, below the others
-  pub dot_down : (n k : ℕ) (r : ℕ → ℕ) (x : ℕ → S) → 0 < k → k ≤ n
-      → sum (times (r (k - 1)) (x (k - 1))) (dot none sum times (n - k) (λ i. r (k + i)) (λ i. x (k + i)))
-      ≡ dot none sum times (n - (k - 1)) (λ i. r (k - 1 + i)) (λ i. x (k - 1 + i))
-  dot_down n k r x p h =
-      let more : suc (n - k) ≡ n - (k - 1) = omega arith in
-      let first : k - 1 ≡ k - 1 + 0 = omega arith in
-      let next : (i : ℕ) → k + i ≡ k - 1 + suc i = λ i. omega arith in
-      ap₂ sum (ap (λ i. times (r i) (x i)) first)
-      (ap₂ (dot none sum times (n - k)) (λ j i. r (next i j)) (λ j i. x (next i j)))
-      ∙ ap (λ m. dot none sum times m (λ i. r (k - 1 + i)) (λ i. x (k - 1 + i))) more
-
   -- the same multipliers and symbols below n
   pub dot_same : (n : ℕ) (r s : ℕ → ℕ) (x y : ℕ → S) → ((k : ℕ) → k < n → r k ≡ s k) → ((k : ℕ) → k < n → x k ≡ y k)
       → dot none sum times n r x ≡ dot none sum times n s y
@@ -24,6 +13,17 @@ module _ {S : Type 0} (none : S) (sum : S → S → S) (times : ℕ → S → S)
   dot_same (suc n) r s x y g h =
       ap₂ sum (ap₂ times (g 0 (omega arith)) (h 0 (omega arith)))
       (dot_same n _ _ _ _ (λ k q. g (suc k) (omega arith)) (λ k q. h (suc k) (omega arith)))
+
+-- the total with the product of one pair more
+abbrev pub added : {S : Type 0} → S → (S → S → S) → (ℕ → S → S) → S → ℕ × S → S
+added none sum times total p = sum total (times p.0 p.1)
+
+-- nothing is left to be added where one of the two lists has ended
+pub fold_ended : {A B S : Type 0} (h : S → A × B → S) (y : S) (xs : List A) (ys : List B) → (length xs ≡ 0) ⊎ (length ys ≡ 0) → fold h y (zip xs ys) ≡ y
+fold_ended h y [] ys e = refl
+fold_ended h y (x ∷ xs) [] e = refl
+fold_ended h y (x ∷ xs) (z ∷ zs) (inl e) = absurd (suc-ne-zero _ e)
+fold_ended h y (x ∷ xs) (z ∷ zs) (inr e) = absurd (suc-ne-zero _ e)
 
 module _ {S : Type 0} {ok : S → Type 0} {none : S} {sum : S → S → S} {times : ℕ → S → S} (𝓢 : Space ok none sum times) where
   abbrev D : ℕ → (ℕ → ℕ) → (ℕ → S) → S
@@ -69,3 +69,19 @@ module _ {S : Type 0} {ok : S → Type 0} {none : S} {sum : S → S → S} {time
   dot_none (suc n) r x z h =
       ap₂ sum (ap (λ c. times c (x 0)) (z 0) ∙ zero_times (x 0) (h 0)) (dot_none n _ _ (λ k. z (suc k)) (λ k. h (suc k)))
       ∙ 𝓢.unit none 𝓢.ok_zero
+
+  -- the products of pairs, summed one after another
+  folded : (rs : List ℕ) (xs : List S) (y : S)
+      → fold (added none sum times) (sum none y) (zip rs xs) ≡ sum y (D (length (zip rs xs)) (λ k. get_or rs k 0) (λ k. get_or xs k none))
+  folded [] xs y = 𝓢.comm none y
+  folded (r ∷ rs) [] y = 𝓢.comm none y
+  folded (r ∷ rs) (x ∷ xs) y =
+      ap (λ z. fold (added none sum times) z (zip rs xs)) (𝓢.assoc none y (times r x))
+      ∙ folded rs xs (sum y (times r x))
+      ∙ 𝓢.assoc y (times r x) _
+
+  pub dot_folded : (rs : List ℕ) (xs : List S)
+      → fold (added none sum times) none (zip rs xs) ≡ D (length (zip rs xs)) (λ k. get_or rs k 0) (λ k. get_or xs k none)
+  dot_folded [] xs = refl
+  dot_folded (r ∷ rs) [] = refl
+  dot_folded (r ∷ rs) (x ∷ xs) = folded rs xs (times r x)

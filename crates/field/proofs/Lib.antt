@@ -1,3 +1,4 @@
 mod Exponents
+pub mod Arrays
 pub mod Dots
 pub mod DotSums

@@ -1,5 +1,5 @@
 // Forms: how a byte of a unit is made of the twenty data bytes at its position.
-ghost use Rattle.std.specs.Prelude.{◌≡◌, map, length, bit_xor, refl};
+ghost use Rattle.std.specs.Prelude.{◌≡◌, ◌<◌, map, length, bit_xor, refl};
 ghost use Rattle.std.proofs.Common.{sym, ap, ◌∙◌};
 ghost use Rattle.std.specs.Simd.Lanes.{zip2};
 ghost use Rattle.field.specs.Arithmetic.{gmul};
@@ -87,11 +87,11 @@ fn twenty_bytes(at: &[u8])
 fn xor_rows(x: &[u8; 20], y: &[u8; 20]) -> [u8; 20]
     ensures { result ≡ zip2 bit_xor x.now y.now }
 {
-    let mut at = *x;
-    for (byte, other) in at.iter_mut().zip(y) {
-        *byte ^= *other;
-    }
-    at
+    std::array::from_fn(
+        |i|
+            requires { i < 20 }
+        { x[i] ^ y[i] },
+    )
 }
 
 // Each byte of a row, multiplied.

@@ -64,10 +64,9 @@ impl Symbol for u8 {
 pub fn sum_of_products<S: Symbol + Copy>(multipliers: &[u8], symbols: &[S]) -> S
     ensures { result ≡ dot S.zero S.sum S.times (min (length multipliers.now) (length symbols.now)) (λ k. slice_index multipliers.now k) (λ k. slice_index_or symbols.now k S.zero) }
 {
-    let count = multipliers.len().min(symbols.len());
     let mut total = S::zero();
-    for k in (0..count).rev() {
-        total = symbols[k].times(multipliers[k]).sum(total);
+    for (multiplier, symbol) in multipliers.iter().zip(symbols) {
+        total = total.sum(symbol.times(*multiplier));
     }
     total
 }

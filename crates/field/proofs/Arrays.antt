@@ -1,0 +1,44 @@
+-- Arrays made element by element, by a closure whose calls leave it as it was.
+use Rattle.std.proofs.Common.{◌≡◌, ℕ, zero, suc, ◌+◌, ◌<◌, ◌≤◌, ◌⊎◌, List, map, length, get_or, sym, ap, subst, ◌∙◌, inl, inr, eq-or-lt_of_le, arith}
+use denote.Param.Members.{Mut}
+use Rattle.std.specs.Array.{IsMapOf, MapsFrom, IsFromFnResult, IsFromFnResultFrom}
+use Rattle.std.specs.Fn.{Called}
+use Rattle.std.proofs.lemmas.List.{ext_get_or, length-map, get_or-map}
+
+module _ {F B : Type 0} (g : Mut F (ℕ × Unit {0}) B) (f : F) (ys : List B) (h : ℕ → B) (top : ℕ)
+    (calls : (i : ℕ) (y : B) (q : F) → i < top → Called g f (i, tt) y q → (q ≡ f) × (y ≡ h i)) where
+  made_from : (n i : ℕ) → i + n ≤ top → IsFromFnResultFrom g f ys i n → (k : ℕ) (e : B) → i ≤ k → k < i + n → get_or ys k e ≡ h k
+  made_from zero i t r k e low high = absurd (omega arith)
+  made_from (suc n) i t r k e low high =
+      let one = calls i r.1 r.0 (omega arith) r.3 in
+      go (eq-or-lt_of_le low) (λ l. made_from n (i + 1) (omega arith) (subst (λ q. IsFromFnResultFrom g q ys (i + 1) n) one.0 r.4) k e (omega arith) (omega arith))
+    where
+      go : (i ≡ k) ⊎ (i < k) → (i < k → get_or ys k e ≡ h k) → get_or ys k e ≡ h k
+      go (inl s) rest =
+          let one = calls i r.1 r.0 (omega arith) r.3 in
+          ap (λ j. get_or ys j e) (sym s) ∙ r.2.1 e ∙ one.1 ∙ ap h s
+      go (inr l) rest = rest l
+
+  -- an array of what each index gives
+  pub made_at : IsFromFnResult g f ys top → (k : ℕ) (e : B) → k < top → get_or ys k e ≡ h k
+  made_at r k e l = made_from top 0 (omega arith) r.each k e (omega arith) (omega arith)
+
+module _ {F A B : Type 0} (g : Mut F (A × Unit {0}) B) (f : F) (xs : List A) (ys : List B) (h : A → B)
+    (calls : (x : A) (y : B) (q : F) → Called g f (x, tt) y q → (q ≡ f) × (y ≡ h x)) where
+  mapped_from : (n i : ℕ) → MapsFrom g f xs ys i n → (k : ℕ) (d : A) (e : B) → i ≤ k → k < i + n → get_or ys k e ≡ h (get_or xs k d)
+  mapped_from zero i r k d e low high = absurd (omega arith)
+  mapped_from (suc n) i r k d e low high =
+      let one = calls r.1 r.2 r.0 r.5 in
+      go (eq-or-lt_of_le low) (λ l. mapped_from n (i + 1) (subst (λ q. MapsFrom g q xs ys (i + 1) n) one.0 r.6) k d e (omega arith) (omega arith))
+    where
+      go : (i ≡ k) ⊎ (i < k) → (i < k → get_or ys k e ≡ h (get_or xs k d)) → get_or ys k e ≡ h (get_or xs k d)
+      go (inl s) rest =
+          let one = calls r.1 r.2 r.0 r.5 in
+          ap (λ j. get_or ys j e) (sym s) ∙ r.4.1 e ∙ one.1 ∙ ap h (sym (r.3.1 d) ∙ ap (λ j. get_or xs j d) s)
+      go (inr l) rest = rest l
+
+  -- an array of what each element gives
+  pub mapped : (n : ℕ) (d : A) (e : B) → length xs ≡ n → IsMapOf g f xs ys n → ys ≡ map h xs
+  mapped n d e long r =
+      ext_get_or e ys (map h xs) (r.long ∙ sym (length-map xs h ∙ long))
+      (λ k w. mapped_from n 0 r.each k d e (omega arith) (omega (arith, r.long)) ∙ sym (get_or-map h xs k d e (omega (arith, long, r.long))))

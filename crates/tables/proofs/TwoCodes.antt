@@ -15,6 +15,7 @@ use Rattle.field.specs.Tested.{both, both_left, both_right, at}
 use Rattle.tables.specs.Codewords.{Bytes, codeword, Law, Sound, Plain}
 use Rattle.tables.specs.Multipliers.{entry, cauchy, poly}
 use Rattle.tables.specs.declared.table.Table.{Table}
+use Rattle.tables.specs.declared.table.Row.{Row}
 use Rattle.tables.proofs.Elimination.{regular, Arithmetic, Unique, Mds, law}
 use Rattle.tables.proofs.Tests.{low, high}
 
@@ -114,18 +115,22 @@ small_at [] t k = lit< tt
 small_at (x ∷ xs) t zero = ltb→lt x 256 (both_left _ _ t)
 small_at (x ∷ xs) t (suc k) = small_at xs (both_right (ltb x 256) _ t) k
 
+small_rows : List Row → Bool
+small_rows [] = true
+small_rows (r ∷ rs) = both (small_row r.at) (small_rows rs)
+
+small_rows_at : (rs : List Row) → T (small_rows rs) → (l k : ℕ) → get_or (get_or rs l (record { at = [] })).at k 0 < 256
+unfolding small_rows
+small_rows_at [] t l k = lit< tt
+small_rows_at (r ∷ rs) t zero k = small_at r.at (both_left _ _ t) k
+small_rows_at (r ∷ rs) t (suc l) k = small_rows_at rs (both_right (small_row r.at) _ t) l k
+
 small_table : Table → Bool
-small_table t = both (small_row t.f1.at) (both (small_row t.f2.at) (both (small_row t.f3.at) (small_row t.f4.at)))
+small_table t = small_rows t.rows
 
 small_entry : (t : Table) → T (small_table t) → (l k : ℕ) → entry t l k < 256
 unfolding small_table
-small_entry t s zero k = small_at t.f1.at (both_left _ _ s) k
-small_entry t s (suc zero) k = small_at t.f2.at (both_left _ _ (both_right (small_row t.f1.at) _ s)) k
-small_entry t s (suc (suc zero)) k =
-    small_at t.f3.at (both_left _ _ (both_right (small_row t.f2.at) _ (both_right (small_row t.f1.at) _ s))) k
-small_entry t s (suc (suc (suc zero))) k =
-    small_at t.f4.at (both_right (small_row t.f3.at) _ (both_right (small_row t.f2.at) _ (both_right (small_row t.f1.at) _ s))) k
-small_entry t s (suc (suc (suc (suc l)))) k = lit< tt
+small_entry t s = small_rows_at t.rows s
 
 tested_sound : (t : Table) → T (small_table t) → T (regular bit_xor gm 10 4 (entry t)) → Sound (entry t)
 tested_sound t s r = record { small = small; law = column (entry t) (law_gmul (entry t) small (law field_laws (entry t) small r)) }
@@ -134,11 +139,11 @@ tested_sound t s r = record { small = small; law = column (entry t) (law_gmul (e
     small = small_entry t s
 
 cauchy_small : T (small_table cauchy)
-unfolding small_table small_row cauchy gmul inverse
+unfolding small_table small_rows small_row cauchy gmul inverse
 cauchy_small = tt
 
 poly_small : T (small_table poly)
-unfolding small_table small_row poly gmul
+unfolding small_table small_rows small_row poly gmul
 poly_small = tt
 
 pub cauchy_sound : Sound (entry cauchy)

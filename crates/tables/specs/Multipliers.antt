@@ -7,11 +7,7 @@ use Rattle.tables.specs.declared.table.Table.{Table}
 
 -- the entry of row l and column k, both from 0, and 0 outside the four rows and ten columns
 abbrev pub entry : Table → ℕ → ℕ → ℕ
-entry t zero k = get_or t.f1.at k 0
-entry t (suc zero) k = get_or t.f2.at k 0
-entry t (suc (suc zero)) k = get_or t.f3.at k 0
-entry t (suc (suc (suc zero))) k = get_or t.f4.at k 0
-entry t (suc (suc (suc (suc l)))) k = 0
+entry t l k = get_or (get_or t.rows l (record { at = [] })).at k 0
 
 -- c(l, j) of a table R, for l of 1..4 and j of 1..10, and 0 for other numbers
 abbrev pub multiplier_of : (ℕ → ℕ → ℕ) → ℕ → ℕ → ℕ
@@ -27,7 +23,7 @@ abbrev pub row : (ℕ → ℕ) → Row
 row f = record { at = map f (upto 0 10) }
 
 abbrev pub tabled : (ℕ → ℕ → ℕ) → Table
-tabled f = record { f1 = row (f 0); f2 = row (f 1); f3 = row (f 2); f4 = row (f 3) }
+tabled f = record { rows = map (λ l. row (f l)) (upto 0 4) }
 
 -- CAUCHY: c(l, j) = (11 xor (j - 1)) / ((9 + l) xor (j - 1))
 unfoldable pub cauchy : Table

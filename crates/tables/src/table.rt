@@ -11,10 +11,7 @@ pub struct Row {
 // The rows of the four parities.
 #[derive(Clone, Copy)]
 pub struct Table {
-    pub f1: Row,
-    pub f2: Row,
-    pub f3: Row,
-    pub f4: Row,
+    pub rows: [Row; 4],
 }
 
 impl Row {
@@ -22,10 +19,9 @@ impl Row {
     pub fn multiplier(&self, j: u8) -> u8
         ensures { result ≡ multiplier_of (λ _ k. get_or self.now.at k 0) 1 j }
     {
-        if j == 0 || j > 10 {
-            0
-        } else {
-            self.at[j as usize - 1]
+        match j {
+            1..=10 => self.at[j as usize - 1],
+            _ => 0,
         }
     }
 }
@@ -36,10 +32,7 @@ impl Table {
         ensures { result ≡ multiplier_of (entry self.now) l j }
     {
         match l {
-            1 => self.f1.multiplier(j),
-            2 => self.f2.multiplier(j),
-            3 => self.f3.multiplier(j),
-            4 => self.f4.multiplier(j),
+            1..=4 => self.rows[l as usize - 1].multiplier(j),
             _ => 0,
         }
     }

@@ -1,8 +1,8 @@
 -- Lists of halves that a loop writes, one more at the end.
-use Rattle.std.proofs.Common.{◌≡◌, ℕ, zero, suc, ◌+◌, ◌-◌, ◌<◌, ◌≤◌, Bool, true, false, cond, ◌&&◌, T, eqb, ltb, List, [], ◌∷◌, ◌++◌, map, sym, refl, ap, ◌∙◌, subst, ap₂, add-zero, add-suc, suc-add, add-one, arith, eqb→eq, ltb→lt, lt→ltb}
+use Rattle.std.proofs.Common.{◌≡◌, ℕ, zero, suc, ◌+◌, ◌-◌, ◌<◌, ◌≤◌, Bool, true, false, cond, ◌&&◌, T, eqb, ltb, List, [], ◌∷◌, ◌++◌, map, length, filter, get_or, sym, refl, ap, ◌∙◌, subst, ap₂, add-zero, add-suc, suc-add, add-one, arith, eqb→eq, ltb→lt, lt→ltb}
 use lib.Dec.{eqb_refl}
 use Rattle.std.proofs.lemmas.List.{map-append, append-nil}
-use Rattle.tables.specs.Codewords.{count}
+use Rattle.tables.specs.Codewords.{bit, count}
 use Rattle.tables.specs.Multipliers.{upto}
 use Rattle.tables.proofs.Tests.{T_true, not_t_false}
 use Rattle.codes.specs.Lists.{half, without, wholes, lowest, short_end}
@@ -93,3 +93,13 @@ no_tenth Rs l = refl
 no_tenth Xor l = rows_no_tenth (6 ∷ 7 ∷ 8 ∷ 9 ∷ []) refl l
 no_tenth XorPlus l = rows_no_tenth (6 ∷ 7 ∷ 8 ∷ []) refl l
 no_tenth NonXor l = rows_no_tenth (6 ∷ 7 ∷ 8 ∷ []) refl l
+
+-- how many of a list of positions stand
+counted : (b : Bool) (bs : List Bool) → length (filter (λ b. b) bs) ≡ count (length bs) (λ p. get_or bs p false)
+    → length (filter (λ b. b) (b ∷ bs)) ≡ bit b + count (length bs) (λ p. get_or bs p false)
+counted true bs e = omega (arith, e)
+counted false bs e = omega (arith, e)
+
+pub count_filtered : (bs : List Bool) → length (filter (λ b. b) bs) ≡ count (length bs) (λ p. get_or bs p false)
+count_filtered [] = refl
+count_filtered (b ∷ bs) = counted b bs (count_filtered bs)

@@ -2,7 +2,8 @@
 use Rattle.std.specs.Prelude.{ℕ, zero, suc, ◌+◌, ◌-◌, Bool, true, false, cond, not, ◌&&◌, List, [], ◌∷◌, ◌++◌, map, take, ◌==◌, nat_lt}
 use Rattle.tables.specs.Codewords.{count}
 use Rattle.tables.specs.Multipliers.{upto}
-use Rattle.codes.specs.Versions.{group, is_unit}
+use Rattle.codes.specs.Versions.{group}
+use Rattle.units.specs.Numbers.{is_unit}
 use Rattle.codes.specs.declared.list.FetchList.{FetchList}
 use Rattle.codes.specs.declared.version.Version.{Version}
 use Rattle.codes.specs.declared.version.Version.TheVariants.{Rs, Xor, XorPlus, NonXor}

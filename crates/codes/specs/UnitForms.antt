@@ -4,7 +4,8 @@ use Rattle.field.specs.Forms.{form_zero, form_sum, form_times, form_single}
 use Rattle.field.specs.declared.form.Form.{Form}
 use Rattle.tables.specs.Multipliers.{entry, upto}
 use Rattle.tables.specs.declared.table.Table.{Table}
-use Rattle.codes.specs.Versions.{units, is_unit}
+use Rattle.codes.specs.Versions.{units}
+use Rattle.units.specs.Numbers.{is_unit}
 use Rattle.codes.specs.declared.refusal.Refusal.{Refusal}
 use Rattle.codes.specs.declared.refusal.Refusal.TheVariants.{NoUnit}
 use Rattle.codes.specs.declared.version.Version.{Version}

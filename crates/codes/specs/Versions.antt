@@ -1,9 +1,10 @@
 -- The four versions of a filling. At one byte position a(k) is the first byte of data unit k + 1, and b(k) its second.
 -- Position p is that of unit p + 1; parity l, from 0, is that of unit 11 + l.
-use Rattle.std.specs.Prelude.{ℕ, zero, suc, ◌-◌, Bool, false, cond, ◌&&◌, List, [], ◌∷◌, Ok, Err, Result, ◌==◌, nat_le, nat_lt, slice_index_or}
+use Rattle.std.specs.Prelude.{ℕ, zero, suc, ◌-◌, Bool, false, cond, List, [], ◌∷◌, Ok, Err, Result, ◌==◌, nat_lt, slice_index_or}
 use Rattle.tables.specs.Codewords.{parity, Plain}
 use Rattle.tables.specs.Multipliers.{entry}
 use Rattle.tables.specs.declared.table.Table.{Table}
+use Rattle.units.specs.Numbers.{is_unit}
 use Rattle.codes.specs.declared.refusal.Refusal.{Refusal}
 use Rattle.codes.specs.declared.refusal.Refusal.TheVariants.{NoUnit}
 use Rattle.codes.specs.declared.version.Version.{Version}
@@ -64,9 +65,6 @@ module _ {S : Type 0} (none : S) (sum : S → S → S) (times : ℕ → S → S)
   -- the two symbols of unit u of 1 to 14
   abbrev pub units : Version → (ℕ → ℕ → ℕ) → (ℕ → S) → (ℕ → S) → ℕ → S × S
   units v R a b u = (first v R a b (u - 1), second v R a b (u - 1))
-
-abbrev pub is_unit : ℕ → Bool
-is_unit u = nat_lt 0 u && nat_le u 14
 
 -- what an encoding call answers, of ten first and ten second symbols
 abbrev pub encoded : {S : Type 0} → S → (S → S → S) → (ℕ → S → S) → Version → Table → List S → List S → ℕ → Result (S × S) Refusal

@@ -1,8 +1,10 @@
 // Base codes: what a code means, the law that it keeps, and its calls.
-ghost use Rattle.std.specs.Prelude.{◌≡◌, length, if◌then◌else◌};
+ghost use Rattle.std.specs.Prelude.{◌≡◌, ◌<◌, length, if◌then◌else◌, bit_xor, get_or, slice_index};
+ghost use Rattle.field.specs.Arithmetic.{gmul};
+ghost use Rattle.field.specs.Space.{dot};
 ghost use Rattle.tables.specs.Codewords.{Sound, Plain};
 ghost use Rattle.codes.specs.Columns.{column_fits, parities, column_answer};
-ghost use Rattle.tables.specs.Multipliers.{entry, multiplier_of};
+ghost use Rattle.tables.specs.Multipliers.{entry, multiplier_of, row};
 ghost use Rattle.tables.specs.declared.table.Table.{Table as Multipliers};
 
 use crate::refusal::Refusal;
@@ -42,7 +44,7 @@ pub trait BaseCode {
 pub trait PlainSecond: BaseCode {
     // The second row: ten ones.
     fn second_row(&self) -> Row
-        ensures value { result ≡ (Self.BaseCode.table self.now).f2 }
+        ensures value { result ≡ row (entry (Self.BaseCode.table self.now) 1) }
         ensures ones { Plain (entry (Self.BaseCode.table self.now)) };
 
     ghost plain: { (c : Self) → Plain (entry (Self.BaseCode.table c)) };
@@ -53,10 +55,17 @@ fn row_sums(table: &Table, bytes: &[u8]) -> [u8; 4]
     requires { length bytes.now ≡ 10 }
     ensures { result ≡ parities (entry table.now) bytes.now }
 {
-    [
-        sum_of_products(&table.f1.at, bytes),
-        sum_of_products(&table.f2.at, bytes),
-        sum_of_products(&table.f3.at, bytes),
-        sum_of_products(&table.f4.at, bytes),
-    ]
+    std::array::from_fn(
+        |l|
+            requires { (l < 4) × (length bytes.now ≡ 10) }
+        { row_sum(&table.rows[l], bytes) },
+    )
+}
+
+// One of them.
+fn row_sum(row: &Row, bytes: &[u8]) -> u8
+    requires { length bytes.now ≡ 10 }
+    ensures { result ≡ dot 0 bit_xor gmul 10 (λ k. get_or row.now.at k 0) (λ k. slice_index bytes.now k) }
+{
+    sum_of_products(&row.at, bytes)
 }

@@ -35,6 +35,6 @@ impl PlainSecond for Cauchy {
     ghost plain = { λ c. cauchy_plain };
 
     fn second_row(&self) -> Row {
-        cauchy_table().f2
+        cauchy_table().rows[1]
     }
 }

@@ -2,11 +2,12 @@
 ghost use Rattle.std.specs.Prelude.{◌≡◌, ◌+◌, ◌-◌, ◌<◌, ◌≤◌, false, [], ◌∷◌, ◌++◌, map, length, slice_index_or};
 ghost use Rattle.tables.specs.Codewords.{count};
 ghost use Rattle.tables.specs.Multipliers.{upto};
-ghost use Rattle.codes.specs.Lists.{listed, without, wholes, half as half_of, lowest, home as home_of, short_end, short_list, fetch_list_of as fetch_of, has_short as short_in, listed_at, long_list, is_short_for as short_at};
+ghost use Rattle.codes.specs.Lists.{listed, without, wholes, half as half_of, lowest, home as home_of, short_end, short_list, fetch_list_of as fetch_of, listed_at, long_list, is_short_for as short_at};
 
-use crate::encode::span;
 use crate::list::FetchList;
 use crate::version::Version;
+use std::ops::Range;
+use units::number::UnitNumber;
 
 impl FetchList {
     // The listed halves, in order.
@@ -48,55 +49,35 @@ impl FetchList {
         self.push(unit, 2);
     }
 
-    // One half of each unit at the positions from `from` to below `to`, without that at `except`.
-    fn push_others(&mut self, half: u8, from: usize, to: usize, except: usize)
-        requires { (from ≤ to) × ((to ≤ 14) × (self.old.len + (to - from) ≤ 20)) }
-        ensures items { listed self.new ≡ listed self.old ++ map (half_of half) (without except (upto from (to - from))) }
-        ensures count { self.new.len ≤ self.old.len + (to - from) }
+    // One half of each unit at the positions of a range, without that at `except`.
+    fn push_others(&mut self, half: u8, positions: Range<usize>, except: usize)
+        requires { (positions.start ≤ positions.end) × ((positions.end ≤ 14) × (self.old.len + (positions.end - positions.start) ≤ 20)) }
+        ensures items { listed self.new ≡ listed self.old ++ map (half_of half) (without except (upto positions.start (positions.end - positions.start))) }
+        ensures count { self.new.len ≤ self.old.len + (positions.end - positions.start) }
     {
-        for j in from..to {
-            if j != except {
-                self.push(j as u8 + 1, half);
+        for p in positions {
+            if p != except {
+                self.push(p as u8 + 1, half);
             }
         }
     }
 
-    // What a short list of the data position u has behind its ten second halves, by the parity l of its group, or 0 where it has none.
-    fn push_end(&mut self, version: Version, u: usize, l: u8)
-        requires { (self.old.len ≤ 11) × (l < 4) }
-        ensures { listed self.new ≡ listed self.old ++ short_end version u l }
+    // What a short list of the data position u has behind its ten second halves.
+    fn push_end(&mut self, version: Version, u: usize)
+        requires { self.old.len ≤ 11 }
+        ensures { listed self.new ≡ listed self.old ++ short_end version u (home_of version u) }
     {
-        if l == 0 {
-            self.push(13, 2);
-            self.push(14, 2);
-            self.push(12, 1);
-        } else {
-            let (from, to) = span(version, l);
-            self.push(11 + l, 2);
-            self.push_others(1, from, to, u);
+        match version.home(u) {
+            None => {
+                self.push(13, 2);
+                self.push(14, 2);
+                self.push(12, 1);
+            }
+            Some(l) => {
+                self.push(11 + l as u8, 2);
+                self.push_others(1, version.group(l), u);
+            }
         }
-    }
-}
-
-// The parity whose group has the data position u; 0 where none has.
-pub fn home(version: Version, u: usize) -> u8
-    ensures value { result ≡ home_of version u }
-    ensures bound { result < 4 }
-{
-    let end = match version {
-        Version::Rs => return 0,
-        Version::Xor => 10,
-        Version::XorPlus => 9,
-        Version::NonXor => 9,
-    };
-    if u < 3 {
-        1
-    } else if u < 6 {
-        2
-    } else if u < end {
-        3
-    } else {
-        0
     }
 }
 
@@ -106,8 +87,8 @@ fn short(version: Version, u: usize) -> FetchList
     ensures { listed result ≡ short_list version u }
 {
     let mut list = FetchList::new();
-    list.push_others(2, 0, 11, u);
-    list.push_end(version, u, home(version, u));
+    list.push_others(2, 0..11, u);
+    list.push_end(version, u);
     list
 }
 
@@ -115,13 +96,7 @@ fn short(version: Version, u: usize) -> FetchList
 pub fn count_standing(standing: &[bool; 14]) -> usize
     ensures { result ≡ count 14 (λ p. slice_index_or standing.now p false) }
 {
-    let mut seen = 0usize; // standing units among those before p
-    for p in 0..14usize {
-        if standing[p] {
-            seen += 1;
-        }
-    }
-    seen
+    standing.iter().filter(|stands| **stands).count()
 }
 
 // Both halves of the ten lowest standing units.
@@ -130,8 +105,8 @@ fn lowest_ten(standing: &[bool; 14]) -> FetchList
 {
     let mut list = FetchList::new();
     let mut seen = 0usize;
-    for p in 0..14usize {
-        if standing[p] {
+    for (p, stands) in standing.iter().enumerate() {
+        if *stands {
             if seen < 10 {
                 list.push_whole(p);
             }
@@ -158,10 +133,10 @@ fn long(standing: &[bool; 14]) -> FetchList
 pub fn fetch_list(version: Version, standing: &[bool; 14], u: u8) -> FetchList
     ensures { listed result ≡ fetch_of version (λ p. slice_index_or standing.now p false) u }
 {
-    if u == 0 || u > 14 || standing[u as usize - 1] {
-        return FetchList::new();
+    match UnitNumber::try_from(u) {
+        Ok(unit) if !standing[unit.position()] => missing_list(version, standing, unit.position()),
+        _ => FetchList::new(),
     }
-    missing_list(version, standing, u as usize - 1)
 }
 
 // The listed halves of the missing unit at position p.
@@ -179,16 +154,5 @@ fn missing_list(version: Version, standing: &[bool; 14], p: usize) -> FetchList
 pub fn is_short(version: Version, standing: &[bool; 14], p: usize) -> bool
     ensures { result ≡ short_at version (λ q. slice_index_or standing.now q false) p }
 {
-    has_short(version) && p < 10 && count_standing(standing) == 13
-}
-
-fn has_short(version: Version) -> bool
-    ensures { result ≡ short_in version }
-{
-    match version {
-        Version::Rs => false,
-        Version::Xor => true,
-        Version::XorPlus => true,
-        Version::NonXor => true,
-    }
+    version.has_short() && p < 10 && count_standing(standing) == 13
 }

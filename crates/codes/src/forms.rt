@@ -1,5 +1,5 @@
 // The forms of a unit: encoding run on the twenty data symbols themselves.
-ghost use Rattle.std.specs.Prelude.{◌≡◌, ◌≤◌};
+ghost use Rattle.std.specs.Prelude.{◌≡◌, ◌<◌, ◌≤◌};
 ghost use Rattle.codes.specs.UnitForms.{singles as ten_from, forms_of};
 
 use crate::encode::encode_unit;
@@ -19,16 +19,9 @@ fn singles(from: u8) -> [Form; 10]
     requires { from ≤ 10 }
     ensures { result ≡ ten_from from }
 {
-    [
-        Form::single(from),
-        Form::single(from + 1),
-        Form::single(from + 2),
-        Form::single(from + 3),
-        Form::single(from + 4),
-        Form::single(from + 5),
-        Form::single(from + 6),
-        Form::single(from + 7),
-        Form::single(from + 8),
-        Form::single(from + 9),
-    ]
+    std::array::from_fn(
+        |k|
+            requires { (from ≤ 10) × (k < 10) }
+        { Form::single(from + k as u8) },
+    )
 }

@@ -5,6 +5,7 @@
 pub mod base;
 pub mod cauchy;
 pub mod encode;
+pub mod encoder;
 pub mod fetch;
 pub mod forms;
 pub mod list;

@@ -1,4 +1,4 @@
-// Schemes: a version over a base code that admits it.
+// Schemes: a version over a base code that it goes with.
 ghost use Rattle.std.specs.Prelude.{◌≡◌};
 ghost use Rattle.tables.specs.Codewords.{Sound};
 ghost use Rattle.tables.specs.Multipliers.{entry};
@@ -6,9 +6,9 @@ ghost use Rattle.tables.specs.declared.table.Table.{Table as Multipliers};
 ghost use Rattle.codes.specs.Versions.{Admits};
 ghost use Rattle.codes.specs.declared.version.Version.{Version as Kind};
 ghost use Rattle.codes.specs.declared.version.Version.TheVariants as kind;
-ghost use Rattle.std.proofs.Common.{rules};
 
 use crate::base::{BaseCode, PlainSecond};
+use crate::encoder::Encoder;
 use crate::version::Version;
 use tables::table::Table;
 
@@ -22,96 +22,106 @@ pub trait Scheme {
     fn version(&self) -> Version
         ensures { result ≡ version self.now };
 
+    // By what units are made.
+    fn encoder(&self) -> Encoder
+        ensures { result ≡ record { version = version self.now; table = table self.now } }
+    {
+        Encoder {
+            version: self.version(),
+            table: self.table(),
+        }
+    }
+
     fn table(&self) -> Table
         ensures { result ≡ table self.now };
 
     ghost admits: { (s : Self) → Admits (version s) (entry (table s)) };
 }
 
-// The version RS.
-#[derive(Drop)]
-pub struct Rs<C: BaseCode>(pub C);
+// A version as a type, which goes with the base codes of type C.
+pub trait GoesWith<C: BaseCode> {
+    ghost version: { Kind };
 
-impl<C: BaseCode> Scheme for Rs<C> {
-    ghost version = { λ _. kind.Rs };
+    fn version() -> Version
+        ensures { result ≡ version };
 
-    ghost table = { λ s. C.BaseCode.table s.0 };
+    ghost admits: { (c : C) → Admits version (entry (C.BaseCode.table c)) };
+}
 
-    ghost sound = { λ s. C.BaseCode.sound s.0 };
+#[derive(Clone, Copy)]
+pub struct Rs;
 
-    ghost admits = { Prim.search rules };
+#[derive(Clone, Copy)]
+pub struct Xor;
 
-    fn version(&self) -> Version {
+#[derive(Clone, Copy)]
+pub struct XorPlus;
+
+#[derive(Clone, Copy)]
+pub struct NonXor;
+
+impl<C: BaseCode> GoesWith<C> for Rs {
+    ghost version = { kind.Rs };
+
+    ghost admits = { λ _. tt };
+
+    fn version() -> Version {
         Version::Rs
     }
-
-    fn table(&self) -> Table {
-        self.0.table()
-    }
 }
 
-// The version XOR.
-#[derive(Drop)]
-pub struct Xor<C: BaseCode>(pub C);
+impl<C: BaseCode> GoesWith<C> for Xor {
+    ghost version = { kind.Xor };
 
-impl<C: BaseCode> Scheme for Xor<C> {
-    ghost version = { λ _. kind.Xor };
+    ghost admits = { λ _. tt };
 
-    ghost table = { λ s. C.BaseCode.table s.0 };
-
-    ghost sound = { λ s. C.BaseCode.sound s.0 };
-
-    ghost admits = { Prim.search rules };
-
-    fn version(&self) -> Version {
+    fn version() -> Version {
         Version::Xor
     }
-
-    fn table(&self) -> Table {
-        self.0.table()
-    }
 }
 
-// The version NONXOR.
-#[derive(Drop)]
-pub struct NonXor<C: BaseCode>(pub C);
+// Its base codes have a second row of ten ones.
+impl<C: PlainSecond> GoesWith<C> for XorPlus {
+    ghost version = { kind.XorPlus };
 
-impl<C: BaseCode> Scheme for NonXor<C> {
-    ghost version = { λ _. kind.NonXor };
+    ghost admits = { C.PlainSecond.plain };
 
-    ghost table = { λ s. C.BaseCode.table s.0 };
-
-    ghost sound = { λ s. C.BaseCode.sound s.0 };
-
-    ghost admits = { Prim.search rules };
-
-    fn version(&self) -> Version {
-        Version::NonXor
-    }
-
-    fn table(&self) -> Table {
-        self.0.table()
-    }
-}
-
-// The version XOR+, over a base code whose second row is ten ones.
-#[derive(Drop)]
-pub struct XorPlus<C: PlainSecond>(pub C);
-
-impl<C: PlainSecond> Scheme for XorPlus<C> {
-    ghost version = { λ _. kind.XorPlus };
-
-    ghost table = { λ s. C.BaseCode.table s.0 };
-
-    ghost sound = { λ s. C.BaseCode.sound s.0 };
-
-    ghost admits = { Prim.search rules };
-
-    fn version(&self) -> Version {
+    fn version() -> Version {
         Version::XorPlus
     }
+}
+
+impl<C: BaseCode> GoesWith<C> for NonXor {
+    ghost version = { kind.NonXor };
+
+    ghost admits = { λ _. tt };
+
+    fn version() -> Version {
+        Version::NonXor
+    }
+}
+
+// A version over a base code.
+#[derive(Drop)]
+pub struct Over<K, C> {
+    pub kind: K,
+    pub code: C,
+}
+
+impl<C: BaseCode, K: GoesWith<C>> Scheme for Over<K, C> {
+    ghost version = { λ _. K.GoesWith.version };
+
+    ghost table = { λ s. C.BaseCode.table s.code };
+
+    ghost sound = { λ s. C.BaseCode.sound s.code };
+
+    ghost admits = { λ s. K.GoesWith.admits s.code };
+
+    fn version(&self) -> Version {
+        K::version()
+    }
 
     fn table(&self) -> Table {
-        self.0.table()
+        self.code.table()
     }
 }

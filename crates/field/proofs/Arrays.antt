@@ -3,7 +3,9 @@ use Rattle.std.proofs.Common.{◌≡◌, ℕ, zero, suc, ◌+◌, ◌<◌, ◌�
 use denote.Param.Members.{Mut}
 use Rattle.std.specs.Array.{IsMapOf, MapsFrom, IsFromFnResult, IsFromFnResultFrom}
 use Rattle.std.specs.Fn.{Called}
+use Rattle.std.specs.List.{range_with_len}
 use Rattle.std.proofs.lemmas.List.{ext_get_or, length-map, get_or-map}
+use Rattle.std.proofs.lemmas.List.FromFn.{fill_by_all}
 
 module _ {F B : Type 0} (g : Mut F (ℕ × Unit {0}) B) (f : F) (ys : List B) (h : ℕ → B) (top : ℕ)
     (calls : (i : ℕ) (y : B) (q : F) → i < top → Called g f (i, tt) y q → (q ≡ f) × (y ≡ h i)) where
@@ -22,6 +24,9 @@ module _ {F B : Type 0} (g : Mut F (ℕ × Unit {0}) B) (f : F) (ys : List B) (h
   -- an array of what each index gives
   pub made_at : IsFromFnResult g f ys top → (k : ℕ) (e : B) → k < top → get_or ys k e ≡ h k
   made_at r k e l = made_from top 0 (omega arith) r.each k e (omega arith) (omega arith)
+
+  pub made : (e : B) → IsFromFnResult g f ys top → ys ≡ map h (range_with_len 0 top)
+  made e r = fill_by_all h ys top e r.long (λ k w. made_at r k e w)
 
 module _ {F A B : Type 0} (g : Mut F (A × Unit {0}) B) (f : F) (xs : List A) (ys : List B) (h : A → B)
     (calls : (x : A) (y : B) (q : F) → Called g f (x, tt) y q → (q ≡ f) × (y ≡ h x)) where

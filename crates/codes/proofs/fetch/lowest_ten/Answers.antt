@@ -4,7 +4,7 @@ use Rattle.tables.proofs.Counts.{count_yes, count_no}
 use Rattle.codes.specs.Lists.{listed, half}
 use Rattle.codes.proofs.Listings.{whole_taken, whole_full, whole_missing}
 use Rattle.codes.proofs.fetch.lowest_ten.Goals as goal
-use Rattle.codes.proofs.fetch.lowest_ten.Goals.{then-standing-p, then-seen-lt10, else-seen-lt10, else-standing-p}
+use Rattle.codes.proofs.fetch.lowest_ten.Goals.{then-stands, then-seen-lt10, else-seen-lt10, else-stands}
 
 pub push_whole-requires : goal.push_whole-requires
 push_whole-requires c = (omega (arith, c.loop-p.invariant.2 (omega arith)), omega arith)
@@ -13,10 +13,10 @@ pub loop-p-preserved : goal.loop-p-preserved
 loop-p-preserved c =
     let t = c.loop-p in
     let stands : ℕ → Bool = λ p. get_or c.args.standing.now p false in
-    elim c.if-standing-p.branch [
-      | then-standing-p w ↦
-          let yes = w.if-standing-p.true in
-          let seen : c.if-standing-p.seen ≡ count (t.p + 1) stands = w.seen-is ∙ ap (λ n. n + 1) t.invariant.1 ∙ sym (count_yes t.p stands yes) in
+    elim c.if-stands.branch [
+      | then-stands w ↦
+          let yes = w.if-stands.true in
+          let seen : c.if-stands.seen ≡ count (t.p + 1) stands = w.seen-is ∙ ap (λ n. n + 1) t.invariant.1 ∙ sym (count_yes t.p stands yes) in
           elim w.if-seen-lt10.branch [
             | then-seen-lt10 w' ↦ (
               omega (arith, w.seen-is),
@@ -34,8 +34,8 @@ loop-p-preserved c =
                   ∙ sym (whole_full stands t.p t.seen yes t.invariant.1 w'.if-seen-lt10.false),
             )
           ]
-      | else-standing-p w ↦
-          let no = w.if-standing-p.false in (
+      | else-stands w ↦
+          let no = w.if-stands.false in (
             omega (arith, w.seen-is),
             w.seen-is ∙ t.invariant.1 ∙ sym (count_no t.p stands no),
             (λ h. omega (arith, w.seen-is, ap (λ l. l.len) w.list-is, t.invariant.2 (omega (arith, w.seen-is)))),

@@ -1,5 +1,6 @@
 -- Fetch lists: which halves are read to rebuild a unit, in order.
-use Rattle.std.specs.Prelude.{ℕ, zero, suc, ◌+◌, ◌-◌, Bool, true, false, cond, not, ◌&&◌, List, [], ◌∷◌, ◌++◌, map, take, ◌==◌, nat_lt}
+use Rattle.std.specs.Prelude.{ℕ, zero, suc, ◌+◌, ◌-◌, Bool, true, false, cond, not, ◌&&◌, List, [], ◌∷◌, ◌++◌, map, take, ◌==◌, nat_lt, slice_index_or}
+use Rattle.std.specs.List.{list_any}
 use Rattle.tables.specs.Codewords.{count}
 use Rattle.tables.specs.Multipliers.{upto}
 use Rattle.codes.specs.Versions.{group}
@@ -68,3 +69,11 @@ fetch_list_of v stands u = cond (is_unit u && not (stands (u - 1))) (listed_at v
 -- the halves that a list holds
 abbrev pub listed : FetchList → List (ℕ × ℕ)
 listed l = take l.len l.halves
+
+-- which of the fourteen units stand where those of a list are missing
+abbrev pub all_without : List ℕ → List Bool
+all_without missing = map (λ u. not (list_any (λ w. w == u) missing)) (upto 1 14)
+
+-- the symbol of a half of fourteen units that are pairs of symbols, by the numbers of its unit and half; another symbol for a number that is no unit
+abbrev pub half_symbol : {S : Type 0} → S → List (S × S) → ℕ × ℕ → S
+half_symbol other units e = cond (is_unit e.0) (cond (e.1 == 1) (slice_index_or units (e.0 - 1) (other, other)).0 (slice_index_or units (e.0 - 1) (other, other)).1) other

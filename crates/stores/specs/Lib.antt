@@ -1,5 +1,6 @@
 pub mod Refusals
 pub mod Model
+pub mod Halves
 pub mod Calls
 pub mod Layout
 pub mod Area

@@ -1,6 +1,7 @@
 -- What a store holds.
 use Rattle.std.specs.Prelude.{◌≡◌, ℕ, ◌<◌, ◌≤◌, Bool, true, false, cond, ◌&&◌, List, [], length, take, drop, ◌==◌, nat_le}
 use Rattle.std.specs.List.{AllByRecursion}
+pub use Rattle.units.specs.Numbers.{is_unit}
 
 -- a unit is missing, or stands with its first and its second half
 pub data Slot : Type 0 where
@@ -11,9 +12,6 @@ pub record Store : Type 0 where
   -- the half size
   pub size : ℕ
   pub unit : ℕ → Slot
-
-abbrev pub is_unit : ℕ → Bool
-is_unit u = nat_le 1 u && nat_le u 14
 
 abbrev pub is_half : ℕ → Bool
 is_half k = nat_le 1 k && nat_le k 2

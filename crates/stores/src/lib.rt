@@ -3,6 +3,7 @@
 #![tactic(auto)]
 
 pub mod area;
+mod half;
 pub mod refusal;
 pub mod shelves;
 pub mod store;

@@ -1,30 +1,36 @@
 // Why a call is refused. Each reason has a fixed number.
 ghost use Rattle.std.specs.Prelude.{◌≡◌};
 ghost use Rattle.stores.specs.Refusals.{number, area_number};
+ghost use Rattle.stores.specs.declared.refusal.Refusal.TheVariants as of_call;
+
+use units::number::NoUnit;
 
 // A call of a store.
 #[derive(Clone, Copy, PartialEq, Eq, Debug)]
 pub enum Refusal {
     // the unit is not 1 to 14
-    Unit,
+    Unit = 1,
     // the half is not 1 or 2
-    Half,
+    Half = 2,
     // a slice does not have the length that the call asks for
-    Length,
+    Length = 3,
     // the unit is missing
-    Missing,
+    Missing = 4,
 }
 
 impl Refusal {
     pub fn code(&self) -> u8
         ensures { result ≡ number self.now }
     {
-        match *self {
-            Refusal::Unit => 1,
-            Refusal::Half => 2,
-            Refusal::Length => 3,
-            Refusal::Missing => 4,
-        }
+        *self as u8
+    }
+}
+
+impl From<NoUnit> for Refusal {
+    ghost from_gives = { λ _ e. e ≡ of_call.Unit };
+
+    fn from(_: NoUnit) -> Refusal {
+        Refusal::Unit
     }
 }
 
@@ -32,21 +38,17 @@ impl Refusal {
 #[derive(Clone, Copy, PartialEq, Eq, Debug)]
 pub enum AreaRefusal {
     // the half size is 0 or over 512
-    HalfSize,
+    HalfSize = 9,
     // the hop length is 0 or does not divide the half size
-    HopLength,
+    HopLength = 10,
     // the area's length is not 28 half sizes
-    AreaLength,
+    AreaLength = 11,
 }
 
 impl AreaRefusal {
     pub fn code(&self) -> u8
         ensures { result ≡ area_number self.now }
     {
-        match *self {
-            AreaRefusal::HalfSize => 9,
-            AreaRefusal::HopLength => 10,
-            AreaRefusal::AreaLength => 11,
-        }
+        *self as u8
     }
 }

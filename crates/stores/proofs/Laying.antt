@@ -1,7 +1,7 @@
 -- Halves that are laid out as a unit are read back from it.
 use Rattle.std.proofs.Common.{◌≡◌, ℕ, suc, ◌+◌, ◌*◌, ◌%◌, ◌<◌, ◌≤◌, eqb, List, [], ◌∷◌, map, length, get_or, take, drop, sym, refl, ap, ◌∙◌, ⊎_elim, mod-eq_of_lt, arith}
 use Rattle.std.proofs.lemmas.List.{length-take, get_or-take, get_or-drop, length-take-le, length-drop, get_or_past}
-use Rattle.std.proofs.lemmas.List.FromFn.{fill_by_all, get_or-map-range_with_len}
+use Rattle.std.proofs.lemmas.List.FromFn.{fill_by_all, get_or-map-range_with_len, length-map-range_with_len}
 use Rattle.std.proofs.lemmas.Bool.{cases_lt, cases_eq, eq-eqb, ne_eqb, cond-true, cond-false}
 use Rattle.stores.specs.Model.{Slot, half_of, halves}
 use Rattle.stores.specs.Layout.{half_at, index_at, position, half_in, laid}
@@ -12,6 +12,9 @@ use Rattle.stores.proofs.Positions.{position_below, half_at_position, index_at_p
 pub bytes_same : (xs : List ℕ) → ((i : ℕ) → get_or xs i 0 < 256) → map as_byte xs ≡ xs
 bytes_same [] f = refl
 bytes_same (x ∷ xs) f = let e : x % 256 ≡ x = mod-eq_of_lt (f 0) in let r : map as_byte xs ≡ xs = bytes_same xs (λ i. f (suc i)) in cc
+
+pub length-laid : (h n : ℕ) (s : Slot) → length (laid h n s) ≡ 2 * n
+length-laid h n s = length-map-range_with_len (λ p. get_or (half_of s (half_at h p)) (index_at h p) 0) 0 (2 * n)
 
 take_bytes : (n : ℕ) (bs : List ℕ) → ((i : ℕ) → get_or bs i 0 < 256) → (i : ℕ) → get_or (take n bs) i 0 < 256
 take_bytes n bs f i =

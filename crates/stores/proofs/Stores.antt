@@ -14,14 +14,14 @@ is_unit_from u a b = and_from (leb 1 u) (leb u 14) (le-leb 1 u a) (le-leb u 14 b
 pub unit_low : (u : ℕ) → is_unit u ≡ true → 1 ≤ u
 unit_low u e = leb-true 1 u (and_parts (leb 1 u) (leb u 14) e).0
 
-pub put_accepted : (s : Store) (u n : ℕ) → 1 ≤ u → u ≤ 14 → n ≡ 2 * s.size → put_answer s u n ≡ Ok tt
-put_accepted s u n a b l = cond-true (is_unit u) _ _ (is_unit_from u a b) ∙ cond-true (eqb n (2 * s.size)) _ _ (eq-eqb _ _ l)
+pub unit_high : (u : ℕ) → is_unit u ≡ true → u ≤ 14
+unit_high u e = leb-true u 14 (and_parts (leb 1 u) (leb u 14) e).1
 
-pub put_done : (s : Store) (u : ℕ) (bs : List ℕ) → 1 ≤ u → u ≤ 14 → length bs ≡ 2 * s.size → put_store s u bs ≡ with_slot s u (halves s.size bs)
-put_done s u bs a b l = cond-true (accepted (put_answer s u (length bs))) _ _ (ap accepted (put_accepted s u (length bs) a b l))
+pub put_accepted : (s : Store) (u n : ℕ) → is_unit u ≡ true → n ≡ 2 * s.size → put_answer s u n ≡ Ok tt
+put_accepted s u n t l = cond-true (is_unit u) _ _ t ∙ cond-true (eqb n (2 * s.size)) _ _ (eq-eqb _ _ l)
 
-pub lose_accepted : (u : ℕ) → 1 ≤ u → u ≤ 14 → lose_answer u ≡ Ok tt
-lose_accepted u a b = cond-true (is_unit u) _ _ (is_unit_from u a b)
+pub put_done : (s : Store) (u : ℕ) (bs : List ℕ) → is_unit u ≡ true → length bs ≡ 2 * s.size → put_store s u bs ≡ with_slot s u (halves s.size bs)
+put_done s u bs t l = cond-true (accepted (put_answer s u (length bs))) _ _ (ap accepted (put_accepted s u (length bs) t l))
 
-pub lose_done : (s : Store) (u : ℕ) → 1 ≤ u → u ≤ 14 → lose_store s u ≡ with_slot s u missing
-lose_done s u a b = cond-true (accepted (lose_answer u)) _ _ (ap accepted (lose_accepted u a b))
+pub lose_done : (s : Store) (u : ℕ) → is_unit u ≡ true → lose_store s u ≡ with_slot s u missing
+lose_done s u t = cond-true (accepted (lose_answer u)) _ _ (ap accepted (cond-true (is_unit u) _ _ t))

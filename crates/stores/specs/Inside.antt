@@ -7,9 +7,3 @@ pub record Hops (h n : ℕ) : Type 0 where
   pub low : h ≤ 512
   pub whole : n % h ≡ 0
   pub small : n ≤ 512
-
--- what the store's own functions know of its half size n
-pub record FitsArea (len h n : ℕ) : Type 0 where
-  pub small : n ≤ 512
-  pub hops : 0 < n → Hops h n
-  pub long : 28 * n ≤ len

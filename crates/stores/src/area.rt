@@ -1,23 +1,26 @@
 // A store over lent bytes.
-ghost use Rattle.std.specs.Prelude.{◌≡◌, ◌*◌, ◌<◌, ◌≤◌, length, Ok};
+ghost use Rattle.std.specs.Prelude.{◌≡◌, ◌+◌, ◌*◌, ◌<◌, ◌≤◌, length, Ok};
 ghost use Rattle.stores.specs.Model.{halves};
-ghost use Rattle.stores.specs.Calls.{put_answer, put_store, lose_answer, lose_store};
 ghost use Rattle.stores.specs.Layout.{half_in, laid, LayoutBijective, LayoutFigure};
-ghost use Rattle.stores.specs.Area.{suits_answer, size_over, fresh, put_area};
-ghost use Rattle.stores.specs.Inside.{Hops, FitsArea};
-ghost use Rattle.stores.specs.Meaning.{area_meaning};
-ghost use Rattle.stores.specs.Bounds.{area_sound};
+ghost use Rattle.stores.specs.Area.{suits_answer, size_over, fresh, unit_start, put_area};
+ghost use Rattle.stores.specs.Halves.{half_number};
+ghost use Rattle.stores.specs.Inside.{Hops};
 
+use std::ops::Range;
+use units::number::UnitNumber;
+
+use crate::half::Half;
 use crate::refusal::{AreaRefusal, Refusal};
 use crate::store::UnitStore;
 
-// Unit u lies in the 2 H bytes from (u - 1) 2 H on. H is `size` where the area suits, and else 0.
+// Unit u lies in the 2 H bytes from (u - 1) 2 H on, where H is `size`.
 #[derive(Drop)]
 pub struct AreaStore<'a> {
     area: &'a mut [u8],
     size: usize,
     hop: usize,
     present: [bool; 14],
+    ghost in_use: { size ≡ size_over (length area.now) size hop },
 }
 
 // Whether an area of `len` bytes suits the half size `size` and the hop length `hop`.
@@ -38,18 +41,9 @@ pub fn suits(len: usize, size: usize, hop: usize) -> Result<(), AreaRefusal>
     Ok(())
 }
 
-// The half size in use.
-fn size_in_use(len: usize, size: usize, hop: usize) -> usize
-    ensures is { result ≡ size_over len size hop }
-    ensures fits { FitsArea len hop result }
-{
-    match suits(len, size, hop) {
-        Ok(()) => size,
-        Err(_) => 0,
-    }
-}
-
 impl<'a> AreaStore<'a> {
+    ghost use Rattle.stores.specs.Meaning.{area_meaning};
+
     // A store over `area` in which no unit stands. Where the area does not suit, its half size is 0.
     pub fn new(area: &'a mut [u8], size: usize, hop: usize) -> AreaStore<'a>
         ensures model { area_meaning result ≡ fresh (length area.old) size hop }
@@ -57,6 +51,10 @@ impl<'a> AreaStore<'a> {
         ensures area { result.area.now ≡ area.old }
         ensures lent { result.area.ghost_name ≡ area.entry.ghost_name }
     {
+        let size = match suits(area.len(), size, hop) {
+            Ok(()) => size,
+            Err(_) => 0,
+        };
         AreaStore {
             area,
             size,
@@ -64,45 +62,49 @@ impl<'a> AreaStore<'a> {
             present: [false; 14],
         }
     }
+
+    // Where the bytes of a unit lie.
+    fn span(&self, unit: UnitNumber) -> Range<usize>
+        ensures start { result.start ≡ unit_start self.now.size unit.number }
+        ensures end { result.end ≡ unit_start self.now.size unit.number + 2 * self.now.size }
+        ensures within { result.end ≤ length self.now.area.now }
+    {
+        let length = 2 * self.size;
+        let start = unit.position() * length;
+        start..start + length
+    }
 }
 
 impl<'a> UnitStore for AreaStore<'a> {
+    ghost use Rattle.stores.specs.Calls.{put_answer, put_store, lose_answer, lose_store};
+    ghost use Rattle.stores.specs.Meaning.{area_meaning};
+    ghost use Rattle.stores.specs.Bounds.{area_sound};
+
     ghost model = { area_meaning };
 
     ghost sound = { area_sound };
 
     fn size(&self) -> usize {
-        size_in_use(self.area.len(), self.size, self.hop)
+        self.size
     }
 
     fn stands(&self, unit: u8) -> bool {
-        if unit < 1 || unit > 14 {
-            return false;
+        match UnitNumber::try_from(unit) {
+            Ok(unit) => self.present[unit.position()],
+            Err(_) => false,
         }
-        self.present[(unit - 1) as usize]
     }
 
     fn read(&self, unit: u8, half: u8, place: &mut [u8]) -> Result<(), Refusal> {
-        if unit < 1 || unit > 14 {
-            return Err(Refusal::Unit);
-        }
-        if half < 1 || half > 2 {
-            return Err(Refusal::Half);
-        }
-        let n = size_in_use(self.area.len(), self.size, self.hop);
-        if place.len() != n {
+        let unit = UnitNumber::try_from(unit)?;
+        let half = Half::try_from(half)?;
+        if place.len() != self.size {
             return Err(Refusal::Length);
         }
-        if !self.present[(unit - 1) as usize] {
+        if !self.present[unit.position()] {
             return Err(Refusal::Missing);
         }
-        let from = (unit - 1) as usize * (2 * n);
-        take_half(
-            &self.area[from..from + 2 * n],
-            half as usize,
-            self.hop,
-            place,
-        );
+        take_half(&self.area[self.span(unit)], half, self.hop, place);
         Ok(())
     }
 
@@ -113,17 +115,13 @@ impl<'a> UnitStore for AreaStore<'a> {
         ensures hop { self.new.hop ≡ self.old.hop }
         ensures lent { self.new.area.ghost_name ≡ self.old.area.ghost_name }
     {
-        if unit < 1 || unit > 14 {
-            return Err(Refusal::Unit);
-        }
-        let n = size_in_use(self.area.len(), self.size, self.hop);
-        if bytes.len() != 2 * n {
+        let unit = UnitNumber::try_from(unit)?;
+        if bytes.len() != 2 * self.size {
             return Err(Refusal::Length);
         }
-        let hop = self.hop;
-        let from = (unit - 1) as usize * (2 * n);
-        lay(&mut self.area[from..from + 2 * n], n, hop, bytes);
-        self.present[(unit - 1) as usize] = true;
+        let span = self.span(unit);
+        lay(&mut self.area[span], self.size, self.hop, bytes);
+        self.present[unit.position()] = true;
         Ok(())
     }
 
@@ -134,24 +132,21 @@ impl<'a> UnitStore for AreaStore<'a> {
         ensures hop { self.new.hop ≡ self.old.hop }
         ensures lent { self.new.area.ghost_name ≡ self.old.area.ghost_name }
     {
-        if unit < 1 || unit > 14 {
-            return Err(Refusal::Unit);
-        }
-        self.present[(unit - 1) as usize] = false;
+        let unit = UnitNumber::try_from(unit)?;
+        self.present[unit.position()] = false;
         Ok(())
     }
 }
 
-// Copies half `half` of a unit's bytes into `place`.
-fn take_half(unit: &[u8], half: usize, hop: usize, place: &mut [u8])
+// Copies one half of a unit's bytes into `place`.
+fn take_half(unit: &[u8], half: Half, hop: usize, place: &mut [u8])
     requires hops { 0 < length place.old → Hops hop (length place.old) }
     requires long { length unit.now ≡ 2 * length place.old }
-    requires low { 1 ≤ half }
-    requires high { half ≤ 2 }
-    ensures { place.new ≡ half_in hop (length place.old) unit.now half }
+    ensures { place.new ≡ half_in hop (length place.old) unit.now (half_number half) }
 {
-    for j in 0..place.len() {
-        place[j] = unit[j / hop * (2 * hop) + ((half - 1) * hop + j % hop)];
+    let first = half.position() * hop;
+    for (j, byte) in place.iter_mut().enumerate() {
+        *byte = unit[j / hop * (2 * hop) + (first + j % hop)];
     }
 }
 
@@ -162,8 +157,8 @@ fn lay(unit: &mut [u8], n: usize, hop: usize, bytes: &[u8])
     requires all { length bytes.now ≡ 2 * n }
     ensures { unit.new ≡ laid hop n (halves n bytes.now) }
 {
-    for p in 0..unit.len() {
+    for (p, byte) in unit.iter_mut().enumerate() {
         let r = p % (2 * hop);
-        unit[p] = bytes[r / hop * n + (p / (2 * hop) * hop + r % hop)];
+        *byte = bytes[r / hop * n + (p / (2 * hop) * hop + r % hop)];
     }
 }

@@ -1,12 +1,23 @@
 // The two halves of a unit.
-ghost use Rattle.stores.specs.Halves.{Names};
+ghost use Rattle.std.specs.Prelude.{◌≡◌, ◌-◌, ◌<◌};
+ghost use Rattle.stores.specs.Halves.{Names, half_number};
 
 use crate::refusal::Refusal;
 
 #[derive(Clone, Copy)]
 pub(crate) enum Half {
-    First,
-    Second,
+    First = 1,
+    Second = 2,
+}
+
+impl Half {
+    // Its place among the two, from 0.
+    pub(crate) fn position(self) -> usize
+        ensures place { result ≡ half_number self - 1 }
+        ensures within { result < 2 }
+    {
+        self as usize - 1
+    }
 }
 
 impl TryFrom<u8> for Half {

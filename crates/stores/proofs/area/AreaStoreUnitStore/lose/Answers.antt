@@ -1,16 +1,9 @@
-use Rattle.std.proofs.Common.{◌≡◌, length, sym, refl, arith, rules}
-use Rattle.stores.proofs.Stores.{lose_accepted}
+use Rattle.std.proofs.Common.{◌≡◌, ◌-◌, length, ap, ◌∙◌, rules}
 use Rattle.stores.proofs.AreaCalls.{lose_holds}
 use Rattle.stores.proofs.area.AreaStoreUnitStore.lose.Goals as goal
 
-pub returns : goal.returns
-returns c =
-    let s = c.args.self.now in
-    let l : length s.present ≡ 14 = search rules in
-    record {
-      answer = sym (lose_accepted c.args.unit (omega arith) (omega arith));
-      store = lose_holds s.size s.hop s.present s.area.now c.args.unit (omega arith) (omega arith) l;
-      area = refl;
-      hop = refl;
-      lent = refl;
-    }
+pub returns-clause-store : goal.returns-clause-store
+returns-clause-store c =
+    let l : length c.args.self.now.present ≡ 14 = search rules in
+    lose_holds c.args.self.now c.args.unit c.position.result c.in_ok-unit.ensures.0
+    (c.position.ensures.place ∙ ap (λ z. z - 1) c.in_ok-unit.ensures.1) l

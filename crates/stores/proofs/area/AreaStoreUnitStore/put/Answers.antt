@@ -1,16 +1,18 @@
-use Rattle.std.proofs.Common.{◌≡◌, length, refl, arith, rules}
-use Rattle.stores.proofs.AreaCalls.{put_holds, unit_ends}
+use Rattle.std.proofs.Common.{◌≡◌, ◌+◌, ◌-◌, ◌*◌, length, ap, ◌∙◌, arith, rules}
+use Rattle.stores.specs.Area.{unit_start}
+use Rattle.stores.specs.declared.area.AreaStore.{AreaStore}
+use Rattle.stores.proofs.AreaCalls.{hops_in_use, put_holds}
 use Rattle.stores.proofs.area.AreaStoreUnitStore.put.Goals as goal
 
-pub slice_bounds-lay-end : goal.slice_bounds-lay-end
-slice_bounds-lay-end c =
-    unit_ends c.size_in_use-n.result c.args.unit (length c.args.self.now.area.now) (omega arith) (omega arith) c.size_in_use-n.ensures.fits.long
+pub lay-requires-clause-hops : goal.lay-requires-clause-hops
+lay-requires-clause-hops c = hops_in_use c.args.self.now
 
-pub returns : goal.returns
-returns c =
-    let s = c.args.self.now in
+pub returns-clause-store : goal.returns-clause-store
+returns-clause-store c =
+    let s : AreaStore = c.args.self.now in
     let l : length s.present ≡ 14 = search rules in
-    let r =
-    put_holds s.size s.hop s.present s.area.now c.args.unit c.size_in_use-n.result c.args.bytes.now c.lay.new.unit _
-    (omega arith) (omega arith) c.size_in_use-n.ensures.is c.size_in_use-n.ensures.fits l (omega arith) (λ i. omega (arith, c.type_inv.bytes i)) c.lay.ensures refl in
-    record { answer = r.0; store = r.1; area = r.2; hop = refl; lent = refl }
+    let u : c.in_ok-unit.unit.number ≡ c.args.unit = c.in_ok-unit.ensures.1 in
+    put_holds s c.args.unit c.position.result c.span-span.result.start c.span-span.result.end c.args.bytes.now c.lay.new.unit
+    c.in_ok-unit.ensures.0 (c.position.ensures.place ∙ ap (λ z. z - 1) u)
+    (c.span-span.ensures.start ∙ ap (unit_start s.size) u) (c.span-span.ensures.end ∙ ap (λ z. unit_start s.size z + 2 * s.size) u)
+    l (omega arith) (λ i. omega (arith, c.type_inv.bytes i)) c.lay.ensures

@@ -1,4 +1,5 @@
 pub mod Positions
+pub mod Hops
 pub mod Laying
 pub mod Stores
 pub mod AreaCalls

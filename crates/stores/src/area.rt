@@ -1,6 +1,6 @@
 // A store over lent bytes.
 ghost use Rattle.std.specs.Prelude.{◌≡◌, ◌+◌, ◌*◌, ◌<◌, ◌≤◌, length, Ok};
-ghost use Rattle.stores.specs.Model.{halves};
+ghost use Rattle.stores.specs.Model.{holds};
 ghost use Rattle.stores.specs.Layout.{half_in, laid, LayoutBijective, LayoutFigure};
 ghost use Rattle.stores.specs.Area.{suits_answer, size_over, fresh, unit_start, put_area};
 ghost use Rattle.stores.specs.Halves.{half_number};
@@ -119,8 +119,9 @@ impl<'a> UnitStore for AreaStore<'a> {
         if bytes.len() != 2 * self.size {
             return Err(Refusal::Length);
         }
+        let (first, second) = bytes.split_at(self.size);
         let span = self.span(unit);
-        lay(&mut self.area[span], self.size, self.hop, bytes);
+        lay(&mut self.area[span], self.hop, first, second);
         self.present[unit.position()] = true;
         Ok(())
     }
@@ -144,21 +145,29 @@ fn take_half(unit: &[u8], half: Half, hop: usize, place: &mut [u8])
     requires long { length unit.now ≡ 2 * length place.old }
     ensures { place.new ≡ half_in hop (length place.old) unit.now (half_number half) }
 {
+    if place.is_empty() {
+        return;
+    }
     let first = half.position() * hop;
-    for (j, byte) in place.iter_mut().enumerate() {
-        *byte = unit[j / hop * (2 * hop) + (first + j % hop)];
+    for (q, pair) in unit.chunks_exact(2 * hop).enumerate() {
+        place[q * hop..(q + 1) * hop].copy_from_slice(&pair[first..first + hop]);
     }
 }
 
-// Lays two halves of n bytes, which stand in a row in `bytes`, out as a unit.
-fn lay(unit: &mut [u8], n: usize, hop: usize, bytes: &[u8])
-    requires hops { 0 < n → Hops hop n }
-    requires long { length unit.old ≡ 2 * n }
-    requires all { length bytes.now ≡ 2 * n }
-    ensures { unit.new ≡ laid hop n (halves n bytes.now) }
+// Lays the two halves of a unit out in its bytes.
+fn lay(unit: &mut [u8], hop: usize, first: &[u8], second: &[u8])
+    requires hops { 0 < length first.now → Hops hop (length first.now) }
+    requires long { length unit.old ≡ 2 * length first.now }
+    requires same { length second.now ≡ length first.now }
+    ensures { unit.new ≡ laid hop (length first.now) (holds first.now second.now) }
 {
-    for (p, byte) in unit.iter_mut().enumerate() {
-        let r = p % (2 * hop);
-        *byte = bytes[r / hop * n + (p / (2 * hop) * hop + r % hop)];
+    if first.is_empty() {
+        return;
+    }
+    let hops = first.chunks_exact(hop).zip(second.chunks_exact(hop));
+    for (q, (a, b)) in hops.enumerate() {
+        let from = q * (2 * hop);
+        unit[from..from + hop].copy_from_slice(a);
+        unit[from + hop..from + 2 * hop].copy_from_slice(b);
     }
 }

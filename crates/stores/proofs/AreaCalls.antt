@@ -30,8 +30,8 @@ hop_low n h p s d = ⊎_elim (λ t. let e : n % h ≡ n = mod-eq_of_lt t in omeg
 suited : (len n h : ℕ) → n ≡ size_over len n h → FitsArea len h n
 suited len n h e = record {
   hops = λ p. let sm : n ≤ 512 = grind (arith, nat_tests) in
-  let wh : n % h ≡ 0 = grind (arith, nat_tests) in
-  record { some = grind (arith, nat_tests); low = hop_low n h p sm wh; whole = wh; small = sm };
+      let wh : n % h ≡ 0 = grind (arith, nat_tests) in
+      record { some = grind (arith, nat_tests); low = hop_low n h p sm wh; whole = wh; small = sm };
   long = grind (arith, nat_tests);
 }
 

@@ -1,4 +1,4 @@
--- A put on two shelves.
+-- The bytes that a put on a shelf hands on.
 use Rattle.std.proofs.Common.{◌≡◌, ℕ, ◌+◌, ◌-◌, ◌*◌, ◌<◌, ◌≤◌, min, true, false, cond, not, ◌&&◌, eqb, List, ◌++◌, length, take, drop, replicate, sym, refl, ap, ◌∙◌, ⊎_elim, arith, take_at, drop_at}
 use lib.Seq.{take-append-add, drop-append-add}
 use borrow.Rule.Slice.PartMut.{put_mid, post_of}
@@ -24,9 +24,9 @@ padded_is n m l bs x y z nm ml lb xe ye ze =
     let front : take m q ≡ take n bs ++ replicate (m - n) 0 =
     ap (λ k. take k q) (omega arith) ∙ take-append-add x (replicate (l - n) 0) (m - n)
     ∙ ap (λ t. x ++ t) (take-replicate (m - n) (l - n) 0 (omega arith)) ∙ ap (λ t. t ++ replicate (m - n) 0) xe in
-    let back : take (m - n) (drop (m + n - m) (drop m q)) ≡ replicate (m - n) 0 =
-    ap (take (m - n)) (drop-drop (m + n - m) m q ∙ ap (λ k. drop k q) (omega arith) ∙ drop-append-add x (replicate (l - n) 0) m ∙ drop-replicate m (l - n) 0)
-    ∙ take-replicate (m - n) (l - n - m) 0 (omega arith) in
+    let rest : drop (m + n - m) (drop m q) ≡ replicate (l - n - m) 0 =
+    drop-drop (m + n - m) m q ∙ ap (λ k. drop k q) (omega arith) ∙ drop-append-add x (replicate (l - n) 0) m ∙ drop-replicate m (l - n) 0 in
+    let back : take (m - n) (drop (m + n - m) (drop m q)) ≡ replicate (m - n) 0 = ap (take (m - n)) rest ∙ take-replicate (m - n) (l - n - m) 0 (omega arith) in
     let a : List ℕ = take n bs ++ replicate (m - n) 0 in
     let r : List ℕ = drop (m + n - m) (drop m q) in
     let two : 2 * m ≡ length a + m = omega (arith, first_length n m bs nm lb) in

@@ -6,12 +6,11 @@ ghost use Rattle.stores.specs.Area.{suits_answer, size_over, fresh, unit_start, 
 ghost use Rattle.stores.specs.Halves.{half_number};
 ghost use Rattle.stores.specs.Inside.{Hops};
 
-use std::ops::Range;
-use units::number::UnitNumber;
-
 use crate::half::Half;
 use crate::refusal::{AreaRefusal, Refusal};
 use crate::store::UnitStore;
+use std::ops::Range;
+use units::number::UnitNumber;
 
 // Unit u lies in the 2 H bytes from (u - 1) 2 H on, where H is `size`.
 #[derive(Drop)]
@@ -51,13 +50,10 @@ impl<'a> AreaStore<'a> {
         ensures area { result.area.now ≡ area.old }
         ensures lent { result.area.ghost_name ≡ area.entry.ghost_name }
     {
-        let size = match suits(area.len(), size, hop) {
-            Ok(()) => size,
-            Err(_) => 0,
-        };
+        let suited = suits(area.len(), size, hop).is_ok();
         AreaStore {
             area,
-            size,
+            size: if suited { size } else { 0 },
             hop,
             present: [false; 14],
         }

@@ -5,11 +5,13 @@ ghost use Rattle.stores.specs.Shelves.{seen_at, shelf_put, lower_put, upper_put,
 ghost use Rattle.stores.specs.Meaning.{two_meaning};
 ghost use Rattle.stores.specs.Bounds.{two_shelves_sound};
 
-use units::number::UnitNumber;
-
 use crate::half::Half;
 use crate::refusal::Refusal;
 use crate::store::UnitStore;
+use units::number::UnitNumber;
+
+// The last unit of the lower shelf.
+const LAST_LOWER: u8 = 10;
 
 // Units 1 to 10 stand in `lower`, units 11 to 14 in `upper`.
 #[derive(Drop)]
@@ -36,6 +38,7 @@ impl<L, U> TwoShelf<L, U> {
     }
 }
 
+// The shelves differ in type, so no function gives "the shelf of the unit", and each call names both.
 impl<L: UnitStore, U: UnitStore> UnitStore for TwoShelf<L, U> {
     ghost model = { two_meaning L.UnitStore.model U.UnitStore.model };
 
@@ -46,7 +49,7 @@ impl<L: UnitStore, U: UnitStore> UnitStore for TwoShelf<L, U> {
     }
 
     fn stands(&self, unit: u8) -> bool {
-        if unit <= 10 {
+        if unit <= LAST_LOWER {
             self.lower.stands(unit)
         } else {
             self.upper.stands(unit)
@@ -59,7 +62,7 @@ impl<L: UnitStore, U: UnitStore> UnitStore for TwoShelf<L, U> {
         if place.len() != self.size() {
             return Err(Refusal::Length);
         }
-        if unit <= 10 {
+        if unit <= LAST_LOWER {
             read_first(&self.lower, unit, half, place)
         } else {
             read_first(&self.upper, unit, half, place)
@@ -77,7 +80,7 @@ impl<L: UnitStore, U: UnitStore> UnitStore for TwoShelf<L, U> {
         if bytes.len() != 2 * n {
             return Err(Refusal::Length);
         }
-        if unit <= 10 {
+        if unit <= LAST_LOWER {
             put_padded(&mut self.lower, n, unit, bytes)
         } else {
             put_padded(&mut self.upper, n, unit, bytes)
@@ -90,7 +93,7 @@ impl<L: UnitStore, U: UnitStore> UnitStore for TwoShelf<L, U> {
         ensures lower { L.UnitStore.model self.new.lower ≡ lower_lose (L.UnitStore.model self.old.lower) unit }
         ensures upper { U.UnitStore.model self.new.upper ≡ upper_lose (U.UnitStore.model self.old.upper) unit }
     {
-        if unit <= 10 {
+        if unit <= LAST_LOWER {
             self.lower.lose(unit)
         } else {
             self.upper.lose(unit)

@@ -1,17 +1,16 @@
 -- The calls of the area store that are accepted.
-use Rattle.std.proofs.Common.{◌≡◌, ℕ, ◌+◌, ◌-◌, ◌*◌, ◌%◌, ◌<◌, ◌≤◌, Bool, true, false, cond, ◌&&◌, eqb, ◌≢◌, List, ◌++◌, map, length, get_or, take, drop, set, replicate, Ok, sym, refl, ap, ◌∙◌, ⊎_elim, mod-eq_of_lt, add-mul, arith, get_or-set_other, get_or-set_same}
+use Rattle.std.proofs.Common.{◌≡◌, ℕ, ◌+◌, ◌-◌, ◌*◌, ◌%◌, ◌<◌, ◌≤◌, Bool, true, false, cond, ◌&&◌, eqb, ◌≢◌, List, ◌++◌, map, length, get_or, take, drop, set, Ok, sym, refl, ap, ◌∙◌, ⊎_elim, mod-eq_of_lt, add-mul, arith, get_or-set_other, get_or-set_same}
 use borrow.Rule.Slice.PartMut.{put_mid}
 use Rattle.std.proofs.lemmas.Nat.{mul-le}
-use Rattle.std.proofs.lemmas.List.{drop-drop, length-take, length-append, length-drop, drop-take, get_or-replicate, get_or_past}
+use Rattle.std.proofs.lemmas.List.{drop-drop, length-take, length-append, length-drop, drop-take}
 use Rattle.std.proofs.lemmas.Slice.{take-put_mid_below, drop-put_mid, between-put_mid}
-use Rattle.std.proofs.lemmas.List.FromFn.{length-map-range_with_len}
 use Rattle.std.proofs.lemmas.Bool.Decides.{nat_tests}
 use Rattle.std.proofs.lemmas.Bool.{and_from, and_left, and_right, cases_Bool, cases_lt, cases_eq, eq-eqb, ne_eqb, cond-true, cond-false}
 use Rattle.stores.specs.Refusals.{accepted}
-use Rattle.stores.specs.Model.{Store, missing, is_unit, is_half, standing, half_of, halves}
-use Rattle.stores.specs.Calls.{read_answer, read_place, put_answer, put_store, lose_store}
-use Rattle.stores.specs.Layout.{half_at, index_at, half_in, laid}
-use Rattle.stores.specs.Area.{suits_answer, size_over, fresh, unit_start, unit_in, with_unit, as_byte, slot_in, units_in, area_store, put_area}
+use Rattle.stores.specs.Model.{missing, is_unit, is_half, standing, half_of, halves}
+use Rattle.stores.specs.Calls.{read_answer, read_place, put_store, lose_store}
+use Rattle.stores.specs.Layout.{half_in, laid}
+use Rattle.stores.specs.Area.{size_over, unit_start, unit_in, with_unit, as_byte, slot_in, units_in, area_store}
 use Rattle.stores.specs.Inside.{Hops}
 use Rattle.stores.specs.Meaning.{area_meaning}
 use Rattle.stores.specs.declared.area.AreaStore.{AreaStore}

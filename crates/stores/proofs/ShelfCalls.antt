@@ -1,14 +1,9 @@
 -- The bytes that a put on a shelf hands on.
-use Rattle.std.proofs.Common.{◌≡◌, ℕ, ◌+◌, ◌-◌, ◌*◌, ◌<◌, ◌≤◌, min, true, false, cond, not, ◌&&◌, eqb, List, ◌++◌, length, take, drop, replicate, sym, refl, ap, ◌∙◌, ⊎_elim, arith, take_at, drop_at}
+use Rattle.std.proofs.Common.{◌≡◌, ℕ, ◌+◌, ◌-◌, ◌*◌, ◌≤◌, List, ◌++◌, length, take, drop, replicate, ap, ◌∙◌, arith}
 use lib.Seq.{take-append-add, drop-append-add}
-use borrow.Rule.Slice.PartMut.{put_mid, post_of}
+use borrow.Rule.Slice.PartMut.{put_mid}
 use Rattle.std.proofs.lemmas.List.{length-take-le, length-drop, length-append, length-replicate, take_all, drop-drop, take-replicate, drop-replicate}
-use Rattle.std.proofs.lemmas.Bool.{and_from, and_right, cases_eq, eq-eqb, ne_eqb, cond-true, cond-false, le-leb, lt-leb}
-use Rattle.stores.specs.Refusals.{accepted}
-use Rattle.stores.specs.Model.{Slot, Store, is_unit, halves}
-use Rattle.stores.specs.Calls.{put_answer, put_store}
-use Rattle.stores.specs.Shelves.{is_lower, common_size, shortened, two_shelves, padded, shelf_put, lower_put, upper_put}
-use Rattle.stores.proofs.Stores.{store_same, put_accepted, put_done}
+use Rattle.stores.specs.Shelves.{padded}
 
 first_length : (n m : ℕ) (bs : List ℕ) → n ≤ m → length bs ≡ 2 * n → length (take n bs ++ replicate (m - n) 0) ≡ m
 first_length n m bs nm lb = let e = length-take-le n bs (omega arith) in simp (length-append, length-replicate) (omega arith)

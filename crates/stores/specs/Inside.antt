@@ -1,5 +1,5 @@
 -- Facts in the contracts of the area store's private functions.
-use Rattle.std.specs.Prelude.{◌≡◌, ℕ, ◌*◌, ◌%◌, ◌<◌, ◌≤◌}
+use Rattle.std.specs.Prelude.{◌≡◌, ℕ, ◌%◌, ◌<◌, ◌≤◌}
 
 -- hops of h bytes fill a half of n bytes
 pub record Hops (h n : ℕ) : Type 0 where

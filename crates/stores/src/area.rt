@@ -12,7 +12,7 @@ use crate::store::UnitStore;
 use std::ops::Range;
 use units::number::UnitNumber;
 
-// Unit u lies in the 2 H bytes from (u - 1) 2 H on, where H is `size`.
+// Unit u lies in the 2 H bytes from (u - 1) 2 H on. H is `size`: the one asked for, or 0 where the area does not suit.
 #[derive(Drop)]
 pub struct AreaStore<'a> {
     area: &'a mut [u8],
@@ -43,7 +43,7 @@ pub fn suits(len: usize, size: usize, hop: usize) -> Result<(), AreaRefusal>
 impl<'a> AreaStore<'a> {
     ghost use Rattle.stores.specs.Meaning.{area_meaning};
 
-    // A store over `area` in which no unit stands. Where the area does not suit, its half size is 0.
+    // A store over `area` in which no unit stands.
     pub fn new(area: &'a mut [u8], size: usize, hop: usize) -> AreaStore<'a>
         ensures model { area_meaning result ≡ fresh (length area.old) size hop }
         ensures hop { result.hop ≡ hop }
@@ -142,7 +142,7 @@ fn take_half(unit: &[u8], half: Half, hop: usize, place: &mut [u8])
     ensures { place.new ≡ half_in hop (length place.old) unit.now (half_number half) }
 {
     if place.is_empty() {
-        return;
+        return; // the hop length may be 0
     }
     let first = half.position() * hop;
     for (q, pair) in unit.chunks_exact(2 * hop).enumerate() {
@@ -158,7 +158,7 @@ fn lay(unit: &mut [u8], hop: usize, first: &[u8], second: &[u8])
     ensures { unit.new ≡ laid hop (length first.now) (holds first.now second.now) }
 {
     if first.is_empty() {
-        return;
+        return; // the hop length may be 0
     }
     let hops = first.chunks_exact(hop).zip(second.chunks_exact(hop));
     for (q, (a, b)) in hops.enumerate() {

@@ -38,7 +38,7 @@ impl<L, U> TwoShelf<L, U> {
     }
 }
 
-// The shelves differ in type, so no function gives "the shelf of the unit", and each call names both.
+// The shelves are of two types, so no function can give the one that has a unit: each call names both.
 impl<L: UnitStore, U: UnitStore> UnitStore for TwoShelf<L, U> {
     ghost model = { two_meaning L.UnitStore.model U.UnitStore.model };
 

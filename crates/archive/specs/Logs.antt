@@ -1,7 +1,8 @@
 -- What orders, replies and the lines of a log say.
-use Rattle.std.specs.Prelude.{◌≡◌, ℕ, List, map, take}
+use Rattle.std.specs.Prelude.{◌≡◌, ℕ, List, map, take, Ok}
 use Rattle.sets.specs.Calls.{Call, Answer, open_ticket, full_ticket}
 use Rattle.sets.specs.Fillings.{Make}
+use Rattle.sets.specs.Meaning.{gathers, giving_up}
 use Rattle.sets.specs.Refusals.{number}
 use Rattle.sets.specs.Sets.{View, answer, after}
 use Rattle.archive.specs.Books.{new_book}
@@ -29,20 +30,15 @@ call_of (order.Change u bytes) = Call.Change u bytes.now
 call_of (order.Open u) = Call.Open u
 call_of (order.Gather t) = Call.Gather t.unit t.count
 call_of (order.Close t) = Call.Close t.unit t.count
-call_of (order.GiveUpOpen t) = Call.GiveUp open_ticket t.unit t.count
-call_of (order.GiveUpFull t) = Call.GiveUp full_ticket t.unit t.count
+call_of (order.GiveUp t) = giving_up t
 
--- `Start` is told before the first call; it answers no call
 abbrev pub answer_of : Reply → Answer
-answer_of reply.Start = Answer.Declined 0
 answer_of (reply.Done n) = Answer.Number n
 answer_of (reply.Read n place) = Answer.Gave n (held place)
 answer_of (reply.Opened t) = Answer.Ticket open_ticket t.unit t.count
-answer_of (reply.More half t) = Answer.Fetched half open_ticket t.unit t.count
-answer_of (reply.Last half t) = Answer.Fetched half full_ticket t.unit t.count
+answer_of (reply.Gathered g) = gathers (Ok g)
 answer_of (reply.Declined e) = Answer.Declined (number e)
-answer_of (reply.KeptOpen t) = Answer.Declined 7
-answer_of (reply.KeptFull t) = Answer.Declined 7
+answer_of (reply.Kept t) = Answer.Declined 7
 
 -- the call and the answer that a line notes
 abbrev pub asked_call : Asked → Call
@@ -62,7 +58,7 @@ told_answer (told.Read n place) = Answer.Gave n (held place)
 told_answer (told.Opened u n) = Answer.Ticket open_ticket u n
 told_answer (told.More half u n) = Answer.Fetched half open_ticket u n
 told_answer (told.Last half u n) = Answer.Fetched half full_ticket u n
-told_answer (told.Declined n) = Answer.Declined n
+told_answer (told.Declined e) = Answer.Declined (number e)
 
 abbrev pub calls : List Line → List Call
 calls lines = map (λ (l : Line). asked_call l.asked) lines

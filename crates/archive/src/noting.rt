@@ -4,6 +4,8 @@ ghost use Rattle.archive.specs.Logs.{held, call_of, answer_of, asked_call, told_
 
 use crate::order::{Asked, Order, Reply, Told};
 use crate::place::Place;
+use sets::refusal::Refusal;
+use sets::ticket::{AnyTicket, Gathered};
 
 impl Place {
     // Zeros, as many as asked for but at most 1,024.
@@ -12,15 +14,14 @@ impl Place {
     {
         Place {
             bytes: [0; 1024],
-            len,
+            len: len.min(1024),
         }
     }
 
     pub fn bytes(&self) -> &[u8]
         ensures { result.now ≡ held self.now }
     {
-        let len = self.len.min(1024);
-        &self.bytes[0..len]
+        &self.bytes[..self.len]
     }
 }
 
@@ -37,8 +38,8 @@ impl<'a> Order<'a> {
             Order::Open(u) => Asked::Open(*u),
             Order::Gather(t) => Asked::Gather(t.unit(), t.count()),
             Order::Close(t) => Asked::Close(t.unit(), t.count()),
-            Order::GiveUpOpen(t) => Asked::GiveUpOpen(t.unit(), t.count()),
-            Order::GiveUpFull(t) => Asked::GiveUpFull(t.unit(), t.count()),
+            Order::GiveUp(AnyTicket::Open(t)) => Asked::GiveUpOpen(t.unit(), t.count()),
+            Order::GiveUp(AnyTicket::Full(t)) => Asked::GiveUpFull(t.unit(), t.count()),
         }
     }
 }
@@ -49,15 +50,13 @@ impl Reply {
         ensures { told_answer result ≡ answer_of self.now }
     {
         match self {
-            Reply::Start => Told::Declined(0),
             Reply::Done(n) => Told::Number(*n),
             Reply::Read(n, place) => Told::Read(*n, *place),
             Reply::Opened(t) => Told::Opened(t.unit(), t.count()),
-            Reply::More(half, t) => Told::More(*half, t.unit(), t.count()),
-            Reply::Last(half, t) => Told::Last(*half, t.unit(), t.count()),
-            Reply::Declined(e) => Told::Declined(e.number()),
-            Reply::KeptOpen(_) => Told::Declined(7),
-            Reply::KeptFull(_) => Told::Declined(7),
+            Reply::Gathered(Gathered::More(half, t)) => Told::More(*half, t.unit(), t.count()),
+            Reply::Gathered(Gathered::Last(half, t)) => Told::Last(*half, t.unit(), t.count()),
+            Reply::Declined(e) => Told::Declined(*e),
+            Reply::Kept(_) => Told::Declined(Refusal::WrongTicket),
         }
     }
 }

@@ -1,7 +1,7 @@
 // What a party orders of a set, what it is told, and how both are noted in a log.
 use crate::place::Place;
 use sets::refusal::Refusal;
-use sets::ticket::{FullTicket, OpenTicket};
+use sets::ticket::{AnyTicket, FullTicket, Gathered, OpenTicket};
 
 // A call of a set. The party owns the tickets that it hands in, its own or another set's.
 pub enum Order<'a> {
@@ -12,26 +12,20 @@ pub enum Order<'a> {
     Open(u8),
     Gather(OpenTicket),
     Close(FullTicket),
-    GiveUpOpen(OpenTicket),
-    GiveUpFull(FullTicket),
+    GiveUp(AnyTicket),
 }
 
 // The answer to a call. The party owns the tickets that it is handed.
 pub enum Reply {
-    // no call was made yet
-    Start,
     // accepted, with a number
     Done(u8),
     // the halves fetched, and the place with what was read
     Read(u8, Place),
     Opened(OpenTicket),
-    // the unit and the half that were fetched, and the ticket with one more counted
-    More((u8, u8), OpenTicket),
-    Last((u8, u8), FullTicket),
+    Gathered(Gathered),
     Declined(Refusal),
     // declined since the ticket does not match, which comes back
-    KeptOpen(OpenTicket),
-    KeptFull(FullTicket),
+    Kept(AnyTicket),
 }
 
 // A call by its numbers and bytes.
@@ -56,7 +50,7 @@ pub enum Told {
     Opened(u8, u8),
     More((u8, u8), u8, u8),
     Last((u8, u8), u8, u8),
-    Declined(u8),
+    Declined(Refusal),
 }
 
 // A line of a log: a call and its answer.

@@ -2,8 +2,8 @@
 use crate::clerk::Step;
 use crate::office::{Kind, run};
 use crate::tally::Tally;
-use crate::telling::{count_same, unit_asked, unit_of};
-use archive::order::{Line, Told};
+use crate::telling::{count_same, unit_of};
+use archive::order::{Asked, Line, Told};
 use codes::fetch::fetch_list;
 use recordings::cutting::Part;
 use recordings::link::link_ms;
@@ -57,37 +57,28 @@ fn list_length(kind: Kind, lost: u8) -> u8 {
 // The half that a line says was fetched.
 fn fetched(line: &Line) -> Option<(u8, u8)> {
     match line.told {
-        Told::More(half, _, _) => Some(half),
-        Told::Last(half, _, _) => Some(half),
+        Told::More(half, _, _) | Told::Last(half, _, _) => Some(half),
         _ => None,
     }
 }
 
 fn count_fetched(log: &[Line]) -> u32 {
-    let mut count = 0u32;
-    for line in log {
-        if fetched(line).is_some() {
-            count = count.saturating_add(1);
-        }
-    }
-    count
+    let count = log.iter().filter(|line| fetched(line).is_some()).count();
+    u32::try_from(count).unwrap_or(u32::MAX)
 }
 
 fn print_fetched(rt: &impl Print, log: &[Line]) -> io::Result<()> {
-    for line in log {
-        if let Some((unit, half)) = fetched(line) {
-            print!(rt; " {unit}.{half}")?;
-        }
+    for (unit, half) in log.iter().filter_map(fetched) {
+        print!(rt; " {unit}.{half}")?;
     }
     println!(rt; "")
 }
 
 fn print_link(rt: &impl Print, tally: Tally) -> io::Result<()> {
     let Tally {
-        halves: _,
         bytes,
-        rs_halves: _,
         rs_bytes,
+        ..
     } = tally;
     println!(rt;
         "    {bytes} bytes in {} ms, Reed-Solomon {rs_bytes} bytes in {} ms",
@@ -99,8 +90,7 @@ fn print_link(rt: &impl Print, tally: Tally) -> io::Result<()> {
 // What the reads of the run gave, against the recording.
 fn print_reads(rt: &impl Print, lost: u8, part: Part, log: &[Line]) -> io::Result<()> {
     for line in log {
-        if let Told::Read(_, place) = line.told {
-            let u = unit_asked(&line.asked);
+        if let (Asked::Read(u, _), Told::Read(_, place)) = (line.asked, line.told) {
             let bytes = place.bytes();
             let same = count_same(bytes, unit_of(part.bytes, u));
             print_way(rt, lost, u)?;

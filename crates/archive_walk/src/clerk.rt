@@ -3,12 +3,10 @@ use archive::order::{Order, Reply};
 use archive::place::Place;
 use archive::serve::Party;
 use codes::cauchy::Cauchy;
-use codes::scheme::{Rs, Scheme};
+use codes::scheme::Rs;
 use sets::set::Set;
-use sets::ticket::{AnyTicket, FullTicket, OpenTicket};
-use std::mem;
+use sets::ticket::{AnyTicket, Gathered};
 use stores::area::AreaStore;
-use stores::store::UnitStore;
 
 // What the clerk does next.
 #[derive(Clone, Copy)]
@@ -36,40 +34,23 @@ impl<'a> Step<'a> {
         }
     }
 
-    fn wants_own(self) -> bool {
-        matches!(self, Step::GoOn(_) | Step::GiveUp)
-    }
-
-    fn wants_old(self) -> bool {
-        matches!(self, Step::GoOnOld | Step::GiveUpOld)
-    }
-
-    fn gives_up(self) -> bool {
-        matches!(self, Step::GiveUp | Step::GiveUpOld)
-    }
-
-    // The order of a step, with the ticket that it works with.
-    fn order(self, ticket: Hand) -> Order<'a> {
+    // The order of a step, with the ticket that it works with. Where it wants one and there is none, it is a read of no unit,
+    // which is declined.
+    fn order(self, ticket: Option<AnyTicket>) -> Order<'a> {
         match ticket {
-            Hand::Empty => self.order_without(),
-            Hand::Open(t) => {
-                if self.gives_up() {
-                    Order::GiveUpOpen(t)
-                } else {
-                    Order::Gather(t)
-                }
-            }
-            Hand::Full(t) => {
-                if self.gives_up() {
-                    Order::GiveUpFull(t)
-                } else {
-                    Order::Close(t)
-                }
-            }
+            Some(t) => self.order_with(t),
+            None => self.order_without(),
         }
     }
 
-    // The order of a step where there is no ticket: if it wants one, a read of no unit, which is declined.
+    fn order_with(self, ticket: AnyTicket) -> Order<'a> {
+        match (self, ticket) {
+            (Step::GiveUp | Step::GiveUpOld, t) => Order::GiveUp(t),
+            (_, AnyTicket::Open(t)) => Order::Gather(t),
+            (_, AnyTicket::Full(t)) => Order::Close(t),
+        }
+    }
+
     fn order_without(self) -> Order<'a> {
         match self {
             Step::Fill(bytes) => Order::Fill(bytes),
@@ -77,74 +58,35 @@ impl<'a> Step<'a> {
             Step::Read(u, len) => Order::Read(u, Place::new(len)),
             Step::Change(u, bytes) => Order::Change(u, bytes),
             Step::Open(u) => Order::Open(u),
-            Step::GoOn(_) => Order::Read(0, Place::new(0)),
-            Step::GiveUp => Order::Read(0, Place::new(0)),
-            Step::GoOnOld => Order::Read(0, Place::new(0)),
-            Step::GiveUpOld => Order::Read(0, Place::new(0)),
+            Step::GoOn(_) | Step::GiveUp | Step::GoOnOld | Step::GiveUpOld => {
+                Order::Read(0, Place::new(0))
+            }
         }
     }
 }
 
 // How many calls the steps are.
 pub fn count_calls(steps: &[Step]) -> usize {
-    let mut count = 0usize;
-    for step in steps {
-        count = count.saturating_add(step.times() as usize);
-    }
-    count
+    steps.iter().fold(0, |count, step| count.saturating_add(step.times() as usize))
 }
 
-// One place for a ticket.
-pub enum Hand {
-    Empty,
-    Open(OpenTicket),
-    Full(FullTicket),
+// The ticket of a reply.
+fn ticket_of(reply: Reply) -> Option<AnyTicket> {
+    match reply {
+        Reply::Opened(t) => Some(AnyTicket::Open(t)),
+        Reply::Gathered(Gathered::More(_, t)) => Some(AnyTicket::Open(t)),
+        Reply::Gathered(Gathered::Last(_, t)) => Some(AnyTicket::Full(t)),
+        Reply::Kept(t) => Some(t),
+        Reply::Done(_) | Reply::Read(_, _) | Reply::Declined(_) => None,
+    }
 }
 
-impl Hand {
-    fn is_empty(&self) -> bool {
-        match self {
-            Hand::Empty => true,
-            Hand::Open(_) => false,
-            Hand::Full(_) => false,
-        }
-    }
-
-    // The ticket of a reply.
-    fn of_reply(reply: Reply) -> Hand {
-        match reply {
-            Reply::Start => Hand::Empty,
-            Reply::Done(_) => Hand::Empty,
-            Reply::Read(_, _) => Hand::Empty,
-            Reply::Opened(t) => Hand::Open(t),
-            Reply::More(_, t) => Hand::Open(t),
-            Reply::Last(_, t) => Hand::Full(t),
-            Reply::Declined(_) => Hand::Empty,
-            Reply::KeptOpen(t) => Hand::Open(t),
-            Reply::KeptFull(t) => Hand::Full(t),
-        }
-    }
-
-    // Ends the ticket at a set.
-    fn give_up_to<V: Scheme, S: UnitStore>(self, set: &mut Set<V, S>) {
-        match self {
-            Hand::Empty => {}
-            Hand::Open(t) => {
-                let _ = set.give_up(AnyTicket::Open(t));
-            }
-            Hand::Full(t) => {
-                let _ = set.give_up(AnyTicket::Full(t));
-            }
-        }
-    }
-
-    // Ends the ticket at an empty set, where it stops nothing.
-    pub fn spend(self) {
-        let mut area = [0u8; 28];
-        let mut set = Set::new(Rs(Cauchy::new()), AreaStore::new(&mut area, 1, 1));
-        self.give_up_to(&mut set);
-        let (_scheme, _store) = set.into_parts();
-    }
+// Ends a ticket at an empty set, where it stops nothing.
+pub fn spend(ticket: AnyTicket) {
+    let mut area = [0u8; 28];
+    let mut set = Set::new(Rs(Cauchy::new()), AreaStore::new(&mut area, 1, 1));
+    let _ = set.give_up(ticket);
+    let (_scheme, _store) = set.into_parts();
 }
 
 // Works through its steps. It has one place for the ticket of this set, and one for an old ticket.
@@ -153,29 +95,33 @@ pub struct Clerk<'s, 'a> {
     // the next step, and how often it was made already
     next: usize,
     made: u8,
-    own: Hand,
-    old: Hand,
+    own: Option<AnyTicket>,
+    old: Option<AnyTicket>,
 }
 
 impl<'s, 'a> Clerk<'s, 'a> {
-    pub fn new(steps: &'s [Step<'a>], old: Hand) -> Clerk<'s, 'a> {
+    pub fn new(steps: &'s [Step<'a>], old: Option<AnyTicket>) -> Clerk<'s, 'a> {
         Clerk {
             steps,
             next: 0,
             made: 0,
-            own: Hand::Empty,
+            own: None,
             old,
         }
     }
 
     // Keeps the ticket of a reply, if there is one, in the place that is free.
-    fn keep(&mut self, ticket: Hand) {
-        if ticket.is_empty() {
-            ticket.spend();
-        } else if self.own.is_empty() {
-            mem::replace(&mut self.own, ticket).spend();
+    fn keep(&mut self, reply: Option<Reply>) {
+        let Some(ticket) = reply.and_then(ticket_of) else {
+            return;
+        };
+        let place = if self.own.is_none() {
+            &mut self.own
         } else {
-            mem::replace(&mut self.old, ticket).spend();
+            &mut self.old
+        };
+        if let Some(spare) = place.replace(ticket) {
+            spend(spare);
         }
     }
 
@@ -191,18 +137,16 @@ impl<'s, 'a> Clerk<'s, 'a> {
     }
 
     // The ticket that the step works with.
-    fn ticket_for(&mut self, step: Step<'a>) -> Hand {
-        if step.wants_own() {
-            mem::replace(&mut self.own, Hand::Empty)
-        } else if step.wants_old() {
-            mem::replace(&mut self.old, Hand::Empty)
-        } else {
-            Hand::Empty
+    fn ticket_for(&mut self, step: Step<'a>) -> Option<AnyTicket> {
+        match step {
+            Step::GoOn(_) | Step::GiveUp => self.own.take(),
+            Step::GoOnOld | Step::GiveUpOld => self.old.take(),
+            _ => None,
         }
     }
 
     // The work is over: the ticket of this set, if it is still there. An old one is spent.
-    pub fn leave(self) -> Hand {
+    pub fn leave(self) -> Option<AnyTicket> {
         let Clerk {
             steps: _,
             next: _,
@@ -210,20 +154,22 @@ impl<'s, 'a> Clerk<'s, 'a> {
             own,
             old,
         } = self;
-        old.spend();
+        if let Some(t) = old {
+            spend(t);
+        }
         own
     }
 }
 
 impl<'s, 'a> Party<'a> for Clerk<'s, 'a> {
-    fn turn(&mut self, last: Reply) -> Order<'a> {
-        self.keep(Hand::of_reply(last));
+    fn turn(&mut self, last: Option<Reply>) -> Order<'a> {
+        self.keep(last);
         let step = self.next_step();
         let ticket = self.ticket_for(step);
         step.order(ticket)
     }
 
-    fn end(&mut self, last: Reply) {
-        self.keep(Hand::of_reply(last));
+    fn end(&mut self, last: Option<Reply>) {
+        self.keep(last);
     }
 }

@@ -1,12 +1,15 @@
 // Serving the clerk: the schemes of the walk, and a new set for each run.
-use crate::clerk::{Clerk, Hand, Step, count_calls};
+use crate::clerk::{Clerk, Step, count_calls, spend};
 use archive::order::{Asked, Line, Told};
 use archive::serve::serve;
 use codes::cauchy::Cauchy;
 use codes::poly::Poly;
 use codes::scheme::{NonXor, Rs, Scheme, Xor, XorPlus};
 use codes::version::Version;
+use sets::refusal::Refusal;
+use sets::ticket::AnyTicket;
 use std::alloc::{AllocError, Global};
+use std::fmt;
 use stores::area::AreaStore;
 use stores::shelves::TwoShelf;
 
@@ -20,17 +23,19 @@ pub enum Kind {
     NonXorPoly,
 }
 
-impl Kind {
-    pub fn name(self) -> &'static str {
-        match self {
+impl fmt::Display for Kind {
+    fn fmt<W: fmt::Write>(&self, f: &mut fmt::Formatter<W>) -> fmt::Result {
+        f.pad(match self {
             Kind::Rs => "RS over CAUCHY",
             Kind::Xor => "XOR over CAUCHY",
             Kind::XorPlus => "XOR+ over CAUCHY",
             Kind::NonXor => "NONXOR over CAUCHY",
             Kind::NonXorPoly => "NONXOR over POLY",
-        }
+        })
     }
+}
 
+impl Kind {
     // Where its sets stand.
     pub fn place(self) -> &'static str {
         match self {
@@ -44,26 +49,18 @@ impl Kind {
             Kind::Rs => Version::Rs,
             Kind::Xor => Version::Xor,
             Kind::XorPlus => Version::XorPlus,
-            Kind::NonXor => Version::NonXor,
-            Kind::NonXorPoly => Version::NonXor,
+            Kind::NonXor | Kind::NonXorPoly => Version::NonXor,
         }
     }
 }
 
-fn blank<'a>() -> Line<'a> {
-    Line {
-        asked: Asked::Lose(0),
-        told: Told::Declined(0),
-    }
-}
-
-// A log of that many lines, before anything is noted in it.
+// A log of that many lines, before anything is noted in it: a line that says that no unit 0 was lost.
 fn blank_log<'a>(heap: Global, len: usize) -> Result<Vec<Line<'a>>, AllocError> {
-    let mut log = Vec::new(heap);
-    for _ in 0..len {
-        log.push(blank())?;
-    }
-    Ok(log)
+    let blank = Line {
+        asked: Asked::Lose(0),
+        told: Told::Declined(Refusal::NoUnit),
+    };
+    vec![in heap; blank; len]
 }
 
 // Serves the steps on a new set with halves of that size. What was asked and told comes back.
@@ -74,7 +71,9 @@ pub fn run<'a>(
     steps: &[Step<'a>],
 ) -> Result<Vec<Line<'a>>, AllocError> {
     let mut log = blank_log(heap, count_calls(steps))?;
-    serve_steps(kind, half, steps, Hand::Empty, log.as_mut_slice()).spend();
+    if let Some(t) = serve_steps(kind, half, steps, None, log.as_mut_slice()) {
+        spend(t);
+    }
     Ok(log)
 }
 
@@ -89,8 +88,10 @@ pub fn run_with_old<'a>(
     let bytes = [0u8; 20];
     let mut old_log = blank_log(heap, 3)?;
     let old_steps = [Step::Fill(&bytes), Step::Lose(3), Step::Open(3)];
-    let old = serve_steps(Kind::Rs, 1, &old_steps, Hand::Empty, old_log.as_mut_slice());
-    serve_steps(kind, half, steps, old, log.as_mut_slice()).spend();
+    let old = serve_steps(Kind::Rs, 1, &old_steps, None, old_log.as_mut_slice());
+    if let Some(t) = serve_steps(kind, half, steps, old, log.as_mut_slice()) {
+        spend(t);
+    }
     Ok(log)
 }
 
@@ -100,9 +101,9 @@ fn serve_steps<'s, 'a>(
     kind: Kind,
     half: usize,
     steps: &'s [Step<'a>],
-    old: Hand,
+    old: Option<AnyTicket>,
     log: &mut [Line<'a>],
-) -> Hand {
+) -> Option<AnyTicket> {
     let mut clerk = Clerk::new(steps, old);
     match kind {
         Kind::Rs => serve_in_area(Rs(Cauchy::new()), half, &mut clerk, log),

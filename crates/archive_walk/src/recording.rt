@@ -7,17 +7,11 @@ pub const RECORDED: u16 = 12_000;
 
 // The recording.
 pub fn made(heap: Global) -> Result<Vec<u8>, AllocError> {
-    let mut bytes = Vec::new(heap);
-    for i in 0..RECORDED {
-        bytes.push(byte_at(i))?;
-    }
-    Ok(bytes)
+    (0..RECORDED).map(byte_at).collect(heap)
 }
 
 // The recording with that many zeros behind it.
 pub fn pad(bytes: &mut Vec<u8>, zeros: usize) -> Result<(), AllocError> {
-    for _ in 0..zeros {
-        bytes.push(0)?;
-    }
-    Ok(())
+    let len = bytes.len().saturating_add(zeros);
+    bytes.resize(len, 0)
 }

@@ -1,7 +1,7 @@
 // A refusal of each number.
 use crate::clerk::Step;
 use crate::office::{Kind, run_with_old};
-use crate::telling::{meaning, print_asked};
+use crate::telling::print_asked;
 use archive::order::{Line, Told};
 use recordings::cutting::Part;
 use std::io;
@@ -49,10 +49,10 @@ fn show_set_refusals(rt: &HostRuntime, part: Part) -> io::Result<()> {
 
 // A line of a log, if its call was declined.
 fn show_declined(rt: &impl Print, line: &Line) -> io::Result<()> {
-    if let Told::Declined(number) = line.told {
-        print!(rt; "  {number:>2}  ")?;
+    if let Told::Declined(e) = line.told {
+        print!(rt; "  {:>2}  ", e.number())?;
         print_asked(rt, &line.asked)?;
-        println!(rt; ": {}", meaning(number))?;
+        println!(rt; ": {e}")?;
     }
     Ok(())
 }
@@ -69,11 +69,7 @@ fn show_store_read<S: UnitStore>(rt: &impl Print, store: &S, unit: u8, half: u8)
     let mut place = [0u8; 1];
     match store.read(unit, half, &mut place) {
         Ok(()) => println!(rt; "      read half {unit}.{half}: done"),
-        Err(e) => println!(rt;
-            "  {:>2}  read half {unit}.{half}: {}",
-            e.code(),
-            meaning(e.code())
-        ),
+        Err(e) => println!(rt; "  {:>2}  read half {unit}.{half}: {e}", e.code()),
     }
 }
 
@@ -81,9 +77,8 @@ fn show_suits(rt: &impl Print, len: usize, size: usize, hop: usize) -> io::Resul
     match suits(len, size, hop) {
         Ok(()) => println!(rt; "      {len} bytes suit"),
         Err(e) => println!(rt;
-            "  {:>2}  {len} bytes, half size {size}, hop length {hop}: {}",
-            e.code(),
-            meaning(e.code())
+            "  {:>2}  {len} bytes, half size {size}, hop length {hop}: {e}",
+            e.code()
         ),
     }
 }

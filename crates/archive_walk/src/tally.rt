@@ -1,5 +1,7 @@
 // What crossed the link, and what Reed-Solomon would have sent.
-#[derive(Clone, Copy)]
+use std::ops::Add;
+
+#[derive(Clone, Copy, Default)]
 pub struct Tally {
     pub halves: u32,
     pub bytes: u32,
@@ -8,15 +10,6 @@ pub struct Tally {
 }
 
 impl Tally {
-    pub fn new() -> Tally {
-        Tally {
-            halves: 0,
-            bytes: 0,
-            rs_halves: 0,
-            rs_bytes: 0,
-        }
-    }
-
     // One rebuild, by that many halves of that size. Reed-Solomon always takes twenty.
     pub fn of_rebuild(halves: u32, size: usize) -> Tally {
         let size = size.min(512) as u32;
@@ -27,9 +20,12 @@ impl Tally {
             rs_bytes: 20 * size,
         }
     }
+}
 
-    // Both together.
-    pub fn plus(self, other: Tally) -> Tally {
+impl Add for Tally {
+    type Output = Tally;
+
+    fn add(self, other: Tally) -> Tally {
         Tally {
             halves: self.halves.saturating_add(other.halves),
             bytes: self.bytes.saturating_add(other.bytes),

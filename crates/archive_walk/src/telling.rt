@@ -2,33 +2,9 @@
 use archive::order::{Asked, Line, Told};
 use std::io;
 
-// What a refusal number means.
-pub fn meaning(number: u8) -> &'static str {
-    match number {
-        1 => "the unit is not 1 to 14, or not 1 to 10 where data is read or changed",
-        2 => "the half is not 1 or 2",
-        3 => "a slice has another length than stated",
-        4 => "the unit that a store is to read is missing",
-        5 => "fewer than ten units stand",
-        6 => "a rebuild is open",
-        7 => "the ticket does not match",
-        8 => "the unit to be opened stands",
-        9 => "the half size is 0 or over 512",
-        10 => "the hop length is 0 or does not divide the half size",
-        11 => "the area does not have 28 half sizes",
-        _ => "no refusal of a set or a store",
-    }
-}
-
 // How many bytes of the two are the same, position by position.
 pub fn count_same(one: &[u8], other: &[u8]) -> usize {
-    let mut same = 0usize;
-    for (a, b) in one.iter().zip(other.iter()) {
-        if *a == *b {
-            same = same.saturating_add(1);
-        }
-    }
-    same
+    one.iter().zip(other).filter(|(a, b)| a == b).count()
 }
 
 // The bytes of data unit u, from data of ten units in a row; nothing for another number.
@@ -45,8 +21,7 @@ pub fn unit_of(data: &[u8], u: u8) -> &[u8] {
 #[derive(Clone, Copy)]
 struct Teller<'a> {
     filled: &'a [u8],
-    changed: u8,
-    news: &'a [u8],
+    changed: Option<(u8, &'a [u8])>,
     gathering: bool,
 }
 
@@ -54,12 +29,11 @@ struct Teller<'a> {
 pub fn tell_run<'a>(rt: &impl Print, log: &[Line<'a>]) -> io::Result<()> {
     let mut teller = Teller {
         filled: &[],
-        changed: 0,
-        news: &[],
+        changed: None,
         gathering: false,
     };
-    for i in 0..log.len() {
-        teller = teller.tell(rt, &log[i])?;
+    for line in log {
+        teller = teller.tell(rt, line)?;
     }
     Ok(())
 }
@@ -67,8 +41,7 @@ pub fn tell_run<'a>(rt: &impl Print, log: &[Line<'a>]) -> io::Result<()> {
 impl<'a> Teller<'a> {
     fn tell(self, rt: &impl Print, line: &Line<'a>) -> io::Result<Teller<'a>> {
         match line.told {
-            Told::More(half, _, _) => self.tell_half(rt, half),
-            Told::Last(half, _, _) => self.tell_half(rt, half),
+            Told::More(half, _, _) | Told::Last(half, _, _) => self.tell_half(rt, half),
             _ => {
                 self.end_gathers(rt)?;
                 self.tell_call(rt, line)?;
@@ -105,12 +78,11 @@ impl<'a> Teller<'a> {
         match (line.asked, line.told) {
             (Asked::Fill(bytes), Told::Number(_)) => Teller {
                 filled: bytes,
-                changed: 0,
+                changed: None,
                 ..teller
             },
             (Asked::Change(u, bytes), Told::Number(_)) => Teller {
-                changed: u,
-                news: bytes,
+                changed: Some((u, bytes)),
                 ..teller
             },
             _ => teller,
@@ -119,38 +91,29 @@ impl<'a> Teller<'a> {
 
     // What a data unit should hold.
     fn expected(self, u: u8) -> &'a [u8] {
-        if u == self.changed {
-            self.news
-        } else {
-            unit_of(self.filled, u)
+        match self.changed {
+            Some((w, news)) if w == u => news,
+            _ => unit_of(self.filled, u),
         }
     }
 
     fn tell_call(self, rt: &impl Print, line: &Line<'a>) -> io::Result<()> {
         print!(rt; "  ")?;
         print_asked(rt, &line.asked)?;
-        match line.told {
-            Told::Number(n) => print_number(rt, &line.asked, n),
-            Told::Read(n, place) => {
+        match (line.asked, line.told) {
+            (_, Told::Number(n)) => print_number(rt, &line.asked, n),
+            (Asked::Read(u, _), Told::Read(n, place)) => {
                 let bytes = place.bytes();
-                let right = count_same(bytes, self.expected(unit_asked(&line.asked)));
+                let right = count_same(bytes, self.expected(u));
                 println!(rt;
                     ": {n} halves fetched, {right} of {} bytes are right",
                     bytes.len()
                 )
             }
-            Told::Opened(u, n) => println!(rt; ": a ticket with unit {u} and count {n}"),
-            Told::Declined(n) => println!(rt; ": declined with {n}, {}", meaning(n)),
+            (_, Told::Opened(u, n)) => println!(rt; ": a ticket with unit {u} and count {n}"),
+            (_, Told::Declined(e)) => println!(rt; ": declined with {}, {e}", e.number()),
             _ => println!(rt; ""),
         }
-    }
-}
-
-// The unit that a read asked for; 0 for another call.
-pub fn unit_asked(asked: &Asked) -> u8 {
-    match asked {
-        Asked::Read(u, _) => *u,
-        _ => 0,
     }
 }
 

@@ -22,16 +22,16 @@ const LOST: [u8; 4] = [2, 8, 10, 12];
 // The whole walk over a recording of `len` bytes that is padded with zeros to `bytes`.
 pub fn show_recording(rt: &HostRuntime, len: usize, bytes: &[u8]) -> io::Result<()> {
     show_sets(rt, len, bytes)?;
-    let mut tallies = [Tally::new(); 5];
-    for k in 0..5usize {
-        tallies[k] = show_kind(rt, KINDS[k], bytes)?;
+    let mut tallies = Vec::new(rt.alloc());
+    for kind in KINDS {
+        tallies.push((kind, show_kind(rt, kind, bytes)?))?;
     }
     let part = last_part(bytes);
     show_scenes(rt, part)?;
     show_refusals(rt, part)?;
     println!(rt; "\nIn all, for the lost boxes above:")?;
-    for k in 0..5usize {
-        show_total(rt, KINDS[k], tallies[k])?;
+    for (kind, tally) in &tallies {
+        show_total(rt, *kind, *tally)?;
     }
     Ok(())
 }
@@ -71,29 +71,28 @@ fn part_at<'a>(i: usize, bytes: &'a [u8]) -> Part<'a> {
 
 // The last set; one without bytes if there is none.
 fn last_part(bytes: &[u8]) -> Part<'_> {
-    let mut last = part_at(0, &[]);
-    for (i, bytes) in bytes.chunks(FULL_SET).enumerate() {
-        last = part_at(i, bytes);
+    match bytes.chunks(FULL_SET).enumerate().last() {
+        Some((i, bytes)) => part_at(i, bytes),
+        None => part_at(0, &[]),
     }
-    last
 }
 
 // Each lost box in turn, under one scheme.
 fn show_kind(rt: &HostRuntime, kind: Kind, bytes: &[u8]) -> io::Result<Tally> {
-    println!(rt; "\n{}, {}", kind.name(), kind.place())?;
-    let mut tally = Tally::new();
+    println!(rt; "\n{kind}, {}", kind.place())?;
+    let mut tally = Tally::default();
     for lost in LOST {
         println!(rt; "box {lost} is lost")?;
-        tally = tally.plus(show_box(rt, kind, lost, bytes)?);
+        tally = tally + show_box(rt, kind, lost, bytes)?;
     }
     Ok(tally)
 }
 
 // The units of a lost box, set by set.
 fn show_box(rt: &HostRuntime, kind: Kind, lost: u8, bytes: &[u8]) -> io::Result<Tally> {
-    let mut tally = Tally::new();
+    let mut tally = Tally::default();
     for (i, bytes) in bytes.chunks(FULL_SET).enumerate() {
-        tally = tally.plus(rebuild_unit(rt, kind, lost, part_at(i, bytes))?);
+        tally = tally + rebuild_unit(rt, kind, lost, part_at(i, bytes))?;
     }
     Ok(tally)
 }
@@ -106,8 +105,7 @@ fn show_total(rt: &impl Print, kind: Kind, tally: Tally) -> io::Result<()> {
         rs_bytes,
     } = tally;
     println!(rt;
-        "  {:<18}  {halves} halves, {bytes} bytes, {} ms; Reed-Solomon {rs_halves} halves, {rs_bytes} bytes, {} ms",
-        kind.name(),
+        "  {kind:<18}  {halves} halves, {bytes} bytes, {} ms; Reed-Solomon {rs_halves} halves, {rs_bytes} bytes, {} ms",
         link_ms(bytes),
         link_ms(rs_bytes)
     )

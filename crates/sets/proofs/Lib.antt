@@ -5,4 +5,3 @@ pub mod Slots
 pub mod ReadBytes
 pub mod Sums
 pub mod Parities
-pub mod Matching

@@ -45,10 +45,6 @@ pub empty_is : (s : Store) (n : ℕ) → Sound s → s.size ≡ n → ((k : ℕ)
 empty_is s n 𝓢 e w = store_is s n (λ _. missing) e (λ u. all_units s (λ _. missing) 𝓢 w u ∙ cond_both (is_unit u) missing missing (λ x. x ≡ missing) (λ _. refl) (λ _. refl))
 
 -- a set without a rebuild, by its parts
-pub idle_is : (m : Make) {s t : Store} {list : List (ℕ × ℕ)} → s ≡ t → list ≡ []
-    → ◌≡◌ {A = View} (record { make = m; store = s; under = 0; stood = replicate 14 false; list = list; gathered = [] }) (idle m t)
-idle_is m e f = λ i. record { make = m; store = e i; under = 0; stood = replicate 14 false; list = f i; gathered = [] }
-
 -- a half of a unit that stands has its size
 pub standing_long : (s : Store) (u : ℕ) → Sound s → standing (s.unit u) ≡ true → length (half_of (s.unit u) 1) ≡ s.size
 standing_long s u 𝓢 t = go (s.unit u) (𝓢.slots u) t

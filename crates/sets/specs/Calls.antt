@@ -60,9 +60,13 @@ ten_stand s = nat_le 10 (count 14 (stands_in (pattern s.stands)))
 abbrev pub list_for : Status → ℕ → List (ℕ × ℕ)
 list_for s u = fetch_list_of s.version (stands_in (pattern s.stands)) u
 
+-- an open ticket is one whose list is not gathered yet, a full one has it whole
+abbrev pub right_at : Kind → ℕ → ℕ → Bool
+right_at open_ticket n listed = nat_lt n listed
+right_at full_ticket n listed = n == listed
+
 abbrev pub right_kind : Status → Kind → Bool
-right_kind s open_ticket = nat_lt s.count (length s.list)
-right_kind s full_ticket = s.count == length s.list
+right_kind s k = right_at k s.count (length s.list)
 
 -- a rebuild is open, and the ticket's kind, unit and count are those of it
 abbrev pub matches : Status → Kind → ℕ → ℕ → Bool

@@ -1,5 +1,5 @@
 -- What the code's values mean: a set's view, and the answers of the calls.
-use Rattle.std.specs.Prelude.{◌≡◌, ℕ, List, map, take, Ok, Err, Result}
+use Rattle.std.specs.Prelude.{◌≡◌, ℕ, Bool, false, List, [], map, take, replicate, Ok, Err, Result, Some, None, Option}
 use Rattle.codes.specs.Lists.{listed}
 use Rattle.codes.specs.declared.scheme.Scheme as scheme
 use Rattle.stores.specs.declared.store.UnitStore as store
@@ -9,9 +9,11 @@ use Rattle.sets.specs.Fillings.{Make}
 use Rattle.sets.specs.Refusals.{number}
 use Rattle.sets.specs.Sets.{View}
 use Rattle.sets.specs.declared.refusal.Refusal.{Refusal}
+use Rattle.sets.specs.declared.open_rebuild.OpenRebuild.{OpenRebuild}
 use Rattle.sets.specs.declared.set.Set.{Set}
-use Rattle.sets.specs.declared.ticket.OpenTicket.{OpenTicket}
-use Rattle.sets.specs.declared.ticket.FullTicket.{FullTicket}
+use Rattle.sets.specs.declared.ticket.Open.{Open}
+use Rattle.sets.specs.declared.ticket.Full.{Full}
+use Rattle.sets.specs.declared.ticket.Ticket.{Ticket as Held}
 use Rattle.sets.specs.declared.ticket.Gathered.{Gathered}
 use Rattle.sets.specs.declared.ticket.Gathered.TheVariants as gathered
 use Rattle.sets.specs.declared.ticket.AnyTicket.{AnyTicket}
@@ -20,14 +22,35 @@ use Rattle.sets.specs.declared.ticket.AnyTicket.TheVariants as either
 abbrev pub make : {V : Type 0} → scheme.Ghosts V → V → Make
 make g s = record { version = g.version s; table = g.table s; sound = g.sound s }
 
-abbrev pub view : {V S : Type 0} (g : scheme.Ghosts V) (h : store.Ghosts S) → Set V S g h → View
+-- the halves gathered so far, each as long as those of the store
+abbrev pub gathered_of : ℕ → OpenRebuild → List (List ℕ)
+gathered_of h r = map (take h) (take r.count r.halves)
+
+-- what is known of an open rebuild; of none, that no unit stood, nothing is listed and nothing gathered
+abbrev pub under_of : Option OpenRebuild → ℕ
+under_of None = 0
+under_of (Some r) = r.unit.number
+
+abbrev pub stood_of : Option OpenRebuild → List Bool
+stood_of None = replicate 14 false
+stood_of (Some r) = r.stood
+
+abbrev pub list_of : Option OpenRebuild → List (ℕ × ℕ)
+list_of None = []
+list_of (Some r) = listed r.list
+
+abbrev pub gathered_in : ℕ → Option OpenRebuild → List (List ℕ)
+gathered_in h None = []
+gathered_in h (Some r) = gathered_of h r
+
+abbrev pub view : {V S : Type 0} (g : scheme.Ghosts V) (h : store.Ghosts S) → Set V S → View
 view g h s = record {
   make = make g s.scheme;
   store = h.model s.store;
-  under = s.under;
-  stood = s.stood;
-  list = listed s.list;
-  gathered = map (take (h.model s.store).size) (take s.count s.halves);
+  under = under_of s.rebuild;
+  stood = stood_of s.rebuild;
+  list = list_of s.rebuild;
+  gathered = gathered_in (h.model s.store).size s.rebuild;
 }
 
 -- fill and lose answer 0
@@ -45,17 +68,17 @@ abbrev pub gave : Result ℕ Refusal → List ℕ → Answer
 gave (Ok n) place = Gave n place
 gave (Err e) place = Declined (number e)
 
-abbrev pub opens : Result OpenTicket Refusal → Answer
+abbrev pub opens : Result (Held Open) Refusal → Answer
 opens (Ok t) = Ticket open_ticket t.unit t.count
 opens (Err e) = Declined (number e)
 
 -- a ticket that comes back was refused
-abbrev pub gathers : Result Gathered OpenTicket → Answer
+abbrev pub gathers : Result Gathered (Held Open) → Answer
 gathers (Ok (gathered.More half t)) = Fetched half open_ticket t.unit t.count
 gathers (Ok (gathered.Last half t)) = Fetched half full_ticket t.unit t.count
 gathers (Err t) = Declined 7
 
-abbrev pub closes : Result ℕ FullTicket → Answer
+abbrev pub closes : Result ℕ (Held Full) → Answer
 closes (Ok n) = Number n
 closes (Err t) = Declined 7
 

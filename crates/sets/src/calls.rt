@@ -6,9 +6,9 @@ ghost use Rattle.sets.specs.Sets.{new_set, answer, after};
 
 use crate::refusal::Refusal;
 use crate::set::Set;
-use codes::list::FetchList;
 use codes::scheme::Scheme;
 use stores::store::UnitStore;
+use units::number::UnitNumber;
 
 impl<V: Scheme, S: UnitStore> Set<V, S> {
     // A set over a store, of which all units are lost.
@@ -22,11 +22,7 @@ impl<V: Scheme, S: UnitStore> Set<V, S> {
         Set {
             scheme,
             store,
-            under: 0,
-            stood: [false; 14],
-            list: FetchList::new(),
-            halves: [[0; 512]; 20],
-            count: 0,
+            rebuild: None,
         }
     }
 
@@ -37,11 +33,7 @@ impl<V: Scheme, S: UnitStore> Set<V, S> {
         let Set {
             scheme,
             store,
-            under: _,
-            stood: _,
-            list: _,
-            halves: _,
-            count: _,
+            rebuild: _,
         } = self;
         (scheme, store)
     }
@@ -51,10 +43,8 @@ impl<V: Scheme, S: UnitStore> Set<V, S> {
         ensures view { view V.Scheme S.UnitStore self.new ≡ after (view V.Scheme S.UnitStore self.old) (Lose u) }
         ensures answer { done result ≡ answer (view V.Scheme S.UnitStore self.old) (Lose u) }
     {
-        if u == 0 || u > 14 {
-            return Err(Refusal::NoUnit);
-        }
-        if self.under != 0 {
+        UnitNumber::try_from(u)?;
+        if self.rebuild.is_some() {
             return Err(Refusal::RebuildOpen);
         }
         let _ = self.store.lose(u);

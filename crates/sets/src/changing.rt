@@ -32,7 +32,7 @@ impl<V: Scheme, S: UnitStore> Set<V, S> {
         if bytes.len() != 2 * h {
             return Err(Refusal::WrongLength);
         }
-        if self.under != 0 {
+        if self.rebuild.is_some() {
             return Err(Refusal::RebuildOpen);
         }
         let stood = standing(&self.store);

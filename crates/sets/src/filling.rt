@@ -21,7 +21,7 @@ impl<V: Scheme, S: UnitStore> Set<V, S> {
         if bytes.len() != 20 * h {
             return Err(Refusal::WrongLength);
         }
-        if self.under != 0 {
+        if self.rebuild.is_some() {
             return Err(Refusal::RebuildOpen);
         }
         let mut place = [0u8; 1024];

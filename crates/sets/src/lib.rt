@@ -5,7 +5,9 @@
 pub mod calls;
 pub mod changing;
 pub mod filling;
+mod gathering;
 mod halves;
+mod open_rebuild;
 pub mod reading;
 mod rebuilding;
 pub mod rebuilds;

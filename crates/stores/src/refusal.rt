@@ -3,6 +3,7 @@ ghost use Rattle.std.specs.Prelude.{◌≡◌};
 ghost use Rattle.stores.specs.Refusals.{number, area_number};
 ghost use Rattle.stores.specs.declared.refusal.Refusal.TheVariants as of_call;
 
+use std::fmt;
 use units::number::NoUnit;
 
 // A call of a store.
@@ -50,5 +51,26 @@ impl AreaRefusal {
         ensures { result ≡ area_number self.now }
     {
         *self as u8
+    }
+}
+
+impl fmt::Display for Refusal {
+    fn fmt<W: fmt::Write>(&self, f: &mut fmt::Formatter<W>) -> fmt::Result {
+        f.write_str(match self {
+            Refusal::Unit => "the unit is not 1 to 14",
+            Refusal::Half => "the half is not 1 or 2",
+            Refusal::Length => "a slice has another length than stated",
+            Refusal::Missing => "the unit that a store is to read is missing",
+        })
+    }
+}
+
+impl fmt::Display for AreaRefusal {
+    fn fmt<W: fmt::Write>(&self, f: &mut fmt::Formatter<W>) -> fmt::Result {
+        f.write_str(match self {
+            AreaRefusal::HalfSize => "the half size is 0 or over 512",
+            AreaRefusal::HopLength => "the hop length is 0 or does not divide the half size",
+            AreaRefusal::AreaLength => "the area does not have 28 half sizes",
+        })
     }
 }

@@ -8,26 +8,26 @@ use Rattle.archive.proofs.Returns.{rebuilt_own}
 use Rattle.archive.proofs.Whole.{archive_law}
 use Rattle.archive.proofs.serve.serve.Goals as goal
 
-pub loop-i-init : goal.loop-i-init
-loop-i-init g c =
+pub loop-line-init : goal.loop-line-init
+loop-line-init g c =
     let e = c.new-set.ensures in
     starts (make g.V.Scheme c.new-set.result.scheme) (g.S.UnitStore.model c.new-set.result.store).size _ (g.met.V.Scheme.admits c.new-set.result.scheme)
     (e ∙ sym (ap₂ new_set (ap (λ (v : View). v.make) e) (ap (λ (v : View). v.store.size) e)))
 
-pub loop-i-preserved : goal.loop-i-preserved
-loop-i-preserved g c =
-    let h : c.loop-i.i < length c.loop-i.log = omega arith in
-    line_more _ _ _ _ _ _ _ _ _ h c.loop-i.invariant c.noted-asked.ensures c.noted.ensures c.make_call-reply.ensures
+pub loop-line-preserved : goal.loop-line-preserved
+loop-line-preserved g c =
+    let h : c.loop-line.line-index < length c.loop-line.log = omega arith in
+    line_more _ _ _ _ _ _ _ _ _ h c.loop-line.invariant c.noted-asked.ensures c.noted.ensures c.make_call-reply.ensures
 
 pub returns : goal.returns
 returns g c =
-    let h : length c.loop-i.log ≤ c.loop-i.i = omega arith in
+    let h : length c.loop-line.log ≤ c.loop-line.line-index = omega arith in
     let e = c.new-set.ensures in
-    let v = view g.V.Scheme g.S.UnitStore c.loop-i.set in
-    let all : Following (make g.V.Scheme c.new-set.result.scheme) (g.S.UnitStore.model c.new-set.result.store).size c.loop-i.log v =
-    subst (λ (l : List Line). Following (make g.V.Scheme c.new-set.result.scheme) (g.S.UnitStore.model c.new-set.result.store).size l v) (take_all _ _ h) c.loop-i.invariant in
+    let v = view g.V.Scheme g.S.UnitStore c.loop-line.set in
+    let all : Following (make g.V.Scheme c.new-set.result.scheme) (g.S.UnitStore.model c.new-set.result.store).size c.loop-line.log v =
+    subst (λ (l : List Line). Following (make g.V.Scheme c.new-set.result.scheme) (g.S.UnitStore.model c.new-set.result.store).size l v) (take_all _ _ h) c.loop-line.invariant in
     record {
       law = archive_law _ _ (g.met.V.Scheme.admits c.args.scheme);
       own = rebuilt_own _ _ (g.met.V.Scheme.admits c.args.scheme);
-      book = is_logged _ _ _ _ (subst₂ (λ (m : Make) (n : ℕ). Following m n c.loop-i.log v) (ap (λ (v : View). v.make) e) (ap (λ (v : View). v.store.size) e) all);
+      book = is_logged _ _ _ _ (subst₂ (λ (m : Make) (n : ℕ). Following m n c.loop-line.log v) (ap (λ (v : View). v.make) e) (ap (λ (v : View). v.store.size) e) all);
     }

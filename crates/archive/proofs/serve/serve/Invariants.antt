@@ -3,5 +3,5 @@ use Rattle.sets.specs.Meaning.{make, view}
 use Rattle.archive.proofs.Lines.{Following}
 use Rattle.archive.proofs.serve.serve.Given as goal
 
-abbrev pub invariant-loop-i : goal.invariant-loop-i
-invariant-loop-i g l = Following (make g.V.Scheme l.initial.set.scheme) (g.S.UnitStore.model l.initial.set.store).size (take l.i l.log) (view g.V.Scheme g.S.UnitStore l.set)
+abbrev pub invariant-loop-line : goal.invariant-loop-line
+invariant-loop-line g l = Following (make g.V.Scheme l.initial.set.scheme) (g.S.UnitStore.model l.initial.set.store).size (take l.line-index l.log) (view g.V.Scheme g.S.UnitStore l.set)

@@ -1,5 +1,7 @@
-use Rattle.archive.proofs.Places.{zeros}
+use Rattle.std.proofs.Common.{◌≡◌, min, replicate, ap, ◌∙◌, arith}
+use Rattle.std.proofs.lemmas.List.{take-replicate}
 use Rattle.archive.proofs.place.Place.new.Goals as goal
 
 pub returns : goal.returns
-returns c = zeros 1024 c.args.len
+returns c =
+    take-replicate c.min.result 1024 0 (omega (arith, c.min.ensures)) ∙ ap (λ n. replicate n 0) c.min.ensures

@@ -1,7 +1,8 @@
 use Rattle.std.proofs.Common.{◌≡◌, ℕ, ◌+◌, ◌<◌, true, sym, refl, ap, ◌∙◌, subst, arith}
 use Rattle.stores.specs.Model.{Store, missing, is_unit}
 use Rattle.sets.specs.Meaning.{make}
-use Rattle.sets.proofs.Slots.{slot_more, lost_is, unit_true, empty_is, idle_is}
+use Rattle.sets.specs.Sets.{idle}
+use Rattle.sets.proofs.Slots.{slot_more, lost_is, unit_true, empty_is}
 use Rattle.sets.proofs.set.Set.new.Goals as goal
 
 pub loop-u-preserved : goal.loop-u-preserved
@@ -18,4 +19,4 @@ returns g c =
     let s = g.S.UnitStore.model c.loop-u.store in
     let e : s ≡ record { size = (g.S.UnitStore.model c.args.store).size; unit = λ _. missing } =
     empty_is s _ (g.S.UnitStore.sound c.loop-u.store) c.loop-u.invariant.0 (λ k l. c.loop-u.invariant.1 k (omega (arith, c.loop-u-test.false))) in
-    idle_is (make g.V.Scheme c.args.scheme) e c.new.ensures.items
+    ap (idle (make g.V.Scheme c.args.scheme)) e

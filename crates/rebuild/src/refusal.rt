@@ -5,21 +5,17 @@ ghost use Rattle.rebuild.specs.Refusals.{number};
 #[derive(Clone, Copy, PartialEq, Eq, Debug)]
 pub enum Refusal {
     // the unit is not one of 1 to 14
-    NoUnit,
+    NoUnit = 1,
     // fewer than ten units stand
-    TooFew,
+    TooFew = 5,
     // the unit stands
-    Stands,
+    Stands = 8,
 }
 
 impl Refusal {
     pub fn number(self) -> u8
         ensures { result ≡ number self }
     {
-        match self {
-            Refusal::NoUnit => 1,
-            Refusal::TooFew => 5,
-            Refusal::Stands => 8,
-        }
+        self as u8
     }
 }

@@ -1,10 +1,14 @@
--- One entry of the list more, before the others.
-use Rattle.std.proofs.Common.{◌≡◌, ℕ, zero, suc, ◌+◌, ◌-◌, ◌<◌, ◌≤◌, min, Bool, true, false, cond, not, ◌&&◌, T, eqb, ltb, ◌≢◌, ◌⊎◌, List, [], ◌∷◌, length, get_or, drop, set, replicate, sym, refl, ap, ◌∙◌, subst, ap₂, inl, inr, ⊎_elim, arith, eqb→eq, ltb→lt, nltb→le, drop-cons, get_or-set_other, get_or-set_same}
-use native.Mathlib.Decide.{ℕ_discrete}
+-- The fetched symbols by position, from the last entry of the list to the first.
+use Rattle.std.proofs.Common.{◌≡◌, ℕ, suc, ◌+◌, ◌-◌, ◌<◌, ◌≤◌, Bool, true, false, cond, not, ◌&&◌, T, eqb, ltb, ◌≢◌, ◌⊎◌, List, [], ◌∷◌, ◌++◌, length, Some, get_or, sym, refl, ap, ◌∙◌, subst, ap₂, inl, inr, suc-ne-zero, arith, eqb→eq, ltb→lt, nltb→le}
+use denote.Ref.{Bor}
 use lib.Dec.{eqb_refl}
 use Rattle.std.proofs.lemmas.List.{get_or_past}
+use Rattle.std.specs.declared.slice.Iter.{Iter}
+use Rattle.std.specs.Iterator.{YieldsNth}
+use Rattle.std.specs.Slice.Iter.{iter_rest, iter_steps_back}
 use Rattle.tables.proofs.Tests.{T_true, not_t_false}
 use Rattle.rebuild.specs.Gathered.{fetched_of, fetched_by}
+use Rattle.rebuild.proofs.Backwards.{pair_off}
 
 same : (a b : ℕ) → a ≡ b → eqb a b ≡ true
 same a b e = T_true (eqb a b) (subst (λ (z : ℕ). T (eqb a z)) e (eqb_refl a))
@@ -12,88 +16,39 @@ same a b e = T_true (eqb a b) (subst (λ (z : ℕ). T (eqb a z)) e (eqb_refl a))
 other : (a b : ℕ) → a ≢ b → eqb a b ≡ false
 other a b n = not_t_false (eqb a b) (λ t. n (eqb→eq a b t))
 
-module _ {S : Type 0} (none : S) (list : List (ℕ × ℕ)) (xs : List S) (h i : ℕ) where
-  step : 0 < i → i ≤ length list → i ≤ length xs → (p : ℕ)
-      → fetched_of none (drop (i - 1) list) (drop (i - 1) xs) h p
-      ≡ cond (eqb (get_or list (i - 1) (0, 0)).0 (p + 1) && eqb (get_or list (i - 1) (0, 0)).1 h) (get_or xs (i - 1) none) (fetched_of none (drop i list) (drop i xs) h p)
-  step a b c p =
-      let e : suc (i - 1) ≡ i = omega arith in
-      ap₂ (λ l x. fetched_of none l x h p) (drop-cons list (i - 1) (0, 0) (omega arith)) (drop-cons xs (i - 1) none (omega arith))
-      ∙ ap (λ n. cond (eqb (get_or list (i - 1) (0, 0)).0 (p + 1) && eqb (get_or list (i - 1) (0, 0)).1 h) (get_or xs (i - 1) none) (fetched_of none (drop n list) (drop n xs) h p)) e
+-- where one of the two lists is at its end
+pub fetched_end : {S : Type 0} (none : S) (list : List (ℕ × ℕ)) (xs : List S) (h p : ℕ) → (length list ≡ 0) ⊎ (length xs ≡ 0) → fetched_of none list xs h p ≡ none
+fetched_end none [] xs h p e = refl
+fetched_end none (e ∷ es) [] h p z = refl
+fetched_end none (e ∷ es) (x ∷ xs) h p (inl z) = absurd (suc-ne-zero _ z)
+fetched_end none (e ∷ es) (x ∷ xs) h p (inr z) = absurd (suc-ne-zero _ z)
 
-  -- the entry is of the half
-  pub step_taken : 0 < i → i ≤ length list → i ≤ length xs → (get_or list (i - 1) (0, 0)).1 ≡ h → (p : ℕ)
-      → cond (eqb (get_or list (i - 1) (0, 0)).0 (p + 1)) (get_or xs (i - 1) none) (fetched_of none (drop i list) (drop i xs) h p)
-      ≡ fetched_of none (drop (i - 1) list) (drop (i - 1) xs) h p
-  step_taken a b c e p =
-      sym (step a b c p
-      ∙ ap (λ t. cond (eqb (get_or list (i - 1) (0, 0)).0 (p + 1) && t) (get_or xs (i - 1) none) (fetched_of none (drop i list) (drop i xs) h p)) (same _ _ e)
-      ∙ and_true (eqb (get_or list (i - 1) (0, 0)).0 (p + 1)))
-    where
-      and_true : (b : Bool) → cond (b && true) (get_or xs (i - 1) none) (fetched_of none (drop i list) (drop i xs) h p) ≡ cond b (get_or xs (i - 1) none) (fetched_of none (drop i list) (drop i xs) h p)
-      and_true true = refl
-      and_true false = refl
+-- the last pair stands for what is fetched where no pair before it is of the half
+pub fetched_last : {S : Type 0} (none : S) (list es : List (ℕ × ℕ)) (xs ys : List S) (e : ℕ × ℕ) (x : S) (h p : ℕ) → length list ≡ length xs → (length es ≡ 0) ⊎ (length ys ≡ 0)
+    → fetched_of none (list ++ (e ∷ es)) (xs ++ (x ∷ ys)) h p ≡ fetched_of (cond (eqb e.0 (p + 1) && eqb e.1 h) x none) list xs h p
+fetched_last none [] es [] ys e x h p n z = ap (cond (eqb e.0 (p + 1) && eqb e.1 h) x) (fetched_end none es ys h p z)
+fetched_last none [] es (y ∷ xs) ys e x h p n z = absurd (omega arith)
+fetched_last none (d ∷ list) es [] ys e x h p n z = absurd (omega arith)
+fetched_last none (d ∷ list) es (y ∷ xs) ys e x h p n z =
+    ap (cond (eqb d.0 (p + 1) && eqb d.1 h) y) (fetched_last none list es xs ys e x h p (omega arith) z)
 
-  -- it is of the other half
-  pub step_passed : 0 < i → i ≤ length list → i ≤ length xs → (get_or list (i - 1) (0, 0)).1 ≢ h → (p : ℕ)
-      → fetched_of none (drop i list) (drop i xs) h p ≡ fetched_of none (drop (i - 1) list) (drop (i - 1) xs) h p
-  step_passed a b c n p =
-      sym (step a b c p
-      ∙ ap (λ t. cond (eqb (get_or list (i - 1) (0, 0)).0 (p + 1) && t) (get_or xs (i - 1) none) (fetched_of none (drop i list) (drop i xs) h p)) (other _ _ n)
-      ∙ and_false (eqb (get_or list (i - 1) (0, 0)).0 (p + 1)))
-    where
-      and_false : (b : Bool) → cond (b && false) (get_or xs (i - 1) none) (fetched_of none (drop i list) (drop i xs) h p) ≡ fetched_of none (drop i list) (drop i xs) h p
-      and_false true = refl
-      and_false false = refl
+-- one pair less, from the back
+pub fetched_off : {S : Type 0} (none : S) (s t : Iter (ℕ × ℕ)) (u v : Iter S) (e : Bor (ℕ × ℕ)) (x : Bor S) (h p : ℕ)
+    → YieldsNth iter_steps_back s (length (iter_rest s) - length (iter_rest u)) (Some e) t × YieldsNth iter_steps_back u (length (iter_rest u) - length (iter_rest s)) (Some x) v
+    → fetched_of none (iter_rest s) (iter_rest u) h p ≡ fetched_of (cond (eqb e.now.0 (p + 1) && eqb e.now.1 h) x.now none) (iter_rest t) (iter_rest v) h p
+fetched_off none s t u v e x h p w =
+    let off = pair_off s t u v e x w in
+    ap₂ (λ es xs. fetched_of none es xs h p) off.2 off.3
+    ∙ fetched_last none (iter_rest t) off.0 (iter_rest v) off.1 e.now x.now h p off.4 off.5
 
--- nothing is fetched past the end of the list or of the symbols
-gone : {X : Type 0} (xs : List X) (n : ℕ) → length xs ≤ n → drop n xs ≡ []
-gone [] zero l = refl
-gone [] (suc n) l = refl
-gone (x ∷ xs) zero l = absurd (omega arith)
-gone (x ∷ xs) (suc n) l = gone xs n (omega arith)
+-- its entry is of the half, or of the other one
+pub of_half : {S : Type 0} (b : Bool) (m n : ℕ) (x y : S) → m ≡ n → cond (b && eqb m n) x y ≡ cond b x y
+of_half true m n x y e = ap (λ t. cond t x y) (same m n e)
+of_half false m n x y e = refl
 
-no_symbols : {S : Type 0} (none : S) (list : List (ℕ × ℕ)) (h p : ℕ) → fetched_of none list [] h p ≡ none
-no_symbols none [] h p = refl
-no_symbols none (e ∷ es) h p = refl
-
-pub nothing : {S : Type 0} (none : S) (list : List (ℕ × ℕ)) (xs : List S) (h p n : ℕ) → n ≡ min (length list) (length xs)
-    → fetched_of none (drop n list) (drop n xs) h p ≡ none
-nothing none list xs h p n e =
-    ⊎_elim
-    (λ l. ap (λ (es : List (ℕ × ℕ)). fetched_of none es (drop n xs) h p) (gone list n l))
-    (λ l. ap (λ ys. fetched_of none (drop n list) ys h p) (gone xs n l) ∙ no_symbols none (drop n list) h p)
-    (shorter (length list) (length xs) n e)
-  where
-    shorter : (a b n : ℕ) → n ≡ min a b → (a ≤ n) ⊎ (b ≤ n)
-    shorter a b n e = go (ltb a b) refl
-      where
-        go : (t : Bool) → ltb a b ≡ t → (a ≤ n) ⊎ (b ≤ n)
-        go true f = let l : a < b = ltb→lt a b (subst T (sym f) tt) in inl (omega (arith, e))
-        go false f = let l : b ≤ a = nltb→le a b (subst (λ (t : Bool). T (not t)) (sym f) tt) in inr (omega (arith, e))
-
--- a row of one symbol
-pub filled : {S : Type 0} (n : ℕ) (x d : S) (p : ℕ) → x ≡ d → get_or (replicate n x) p d ≡ d
-filled zero x d p e = refl
-filled (suc n) x d zero e = e
-filled (suc n) x d (suc p) e = filled n x d p e
-
--- a symbol written at the place of its unit
-pub placed : {S : Type 0} (none : S) (xs : List S) (unit : ℕ) (x : S) → length xs ≡ 14 → 1 ≤ unit → unit ≤ 14 → (p : ℕ) → p < 14
-    → get_or (set xs (unit - 1) x) p none ≡ cond (eqb unit (p + 1)) x (get_or xs p none)
-placed none xs unit x n a b p h =
-    elim (ℕ_discrete p (unit - 1)) [
-      | yes e ↦
-          let at : unit ≡ p + 1 = omega (arith, e) in
-          ap (λ q. get_or (set xs (unit - 1) x) q none) e ∙ get_or-set_same xs (unit - 1) x none (omega arith)
-          ∙ sym (ap (λ t. cond t x (get_or xs p none)) (same unit (p + 1) at))
-      | no d ↦
-          let at : unit ≢ p + 1 = λ e. d (omega (arith, e)) in
-          get_or-set_other xs (unit - 1) p x none d ∙ sym (ap (λ t. cond t x (get_or xs p none)) (other unit (p + 1) at))
-    ]
-
-pub not_placed : {S : Type 0} (x y : S) (unit p : ℕ) → p < 14 → (1 ≤ unit → unit ≤ 14 → ⊥) → y ≡ cond (eqb unit (p + 1)) x y
-not_placed x y unit p h n = sym (ap (λ t. cond t x y) (other unit (p + 1) (λ e. n (omega (arith, e)) (omega (arith, e)))))
+pub of_other_half : {S : Type 0} (b : Bool) (m n : ℕ) (x y : S) → m ≢ n → cond (b && eqb m n) x y ≡ y
+of_other_half true m n x y e = ap (λ t. cond t x y) (other m n e)
+of_other_half false m n x y e = refl
 
 -- a row of fourteen, by position
 pub within_fourteen : {S : Type 0} (none : S) (xs : List S) (f : ℕ → S) → length xs ≡ 14 → ((p : ℕ) → p < 14 → get_or xs p none ≡ f p) → (p : ℕ) → get_or xs p none ≡ cond (ltb p 14) (f p) none

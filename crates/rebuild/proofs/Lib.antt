@@ -1,4 +1,5 @@
 mod Fill
+mod Backwards
 pub mod Gathering
 mod TenProducts
 pub mod Exchange

@@ -4,16 +4,14 @@ ghost use Rattle.rebuild.specs.Gathered.{fetched_by};
 
 use field::symbol::Symbol;
 
-// The symbols fetched for one half of the fourteen units, zero where none was.
+// The symbols fetched for one half of the fourteen units, zero where none was. Of two for one unit the first counts, so it is written last.
 pub(crate) fn by_position<S: Symbol + Copy>(list: &[(u8, u8)], fetched: &[S], half: u8) -> [S; 14]
     ensures { (p : ℕ) → slice_index_or result p S.zero ≡ fetched_by S.zero list.now fetched.now half p }
 {
-    let none = S::zero();
-    let mut symbols = [none; 14];
-    let count = list.len().min(fetched.len());
-    for i in (0..count).rev() {
-        if list[i].1 == half {
-            place(&mut symbols, list[i].0, fetched[i]);
+    let mut symbols = [S::zero(); 14];
+    for (entry, symbol) in list.iter().zip(fetched).rev() {
+        if entry.1 == half {
+            place(&mut symbols, entry.0, *symbol);
         }
     }
     symbols
@@ -21,11 +19,10 @@ pub(crate) fn by_position<S: Symbol + Copy>(list: &[(u8, u8)], fetched: &[S], ha
 
 // Writes the symbol of a unit; a number that is no unit has no place.
 fn place<S: Symbol + Copy>(symbols: &mut [S; 14], unit: u8, symbol: S)
-    requires { length symbols.old ≡ 14 }
     ensures long { length symbols.new ≡ 14 }
     ensures placed { (p : ℕ) → p < 14 → slice_index_or symbols.new p S.zero ≡ (if nat_eq unit (p + 1) then symbol else slice_index_or symbols.old p S.zero) }
 {
-    if unit >= 1 && unit <= 14 {
+    if (1..=14).contains(&unit) {
         symbols[unit as usize - 1] = symbol;
     }
 }
@@ -34,7 +31,7 @@ fn place<S: Symbol + Copy>(symbols: &mut [S; 14], unit: u8, symbol: S)
 pub(crate) fn all_held<S: Symbol + Copy>(symbols: &[S])
     ensures { (i : ℕ) → i < length symbols.now → S.ok (slice_index_or symbols.now i S.zero) }
 {
-    for i in 0..symbols.len() {
-        let _same = symbols[i].held();
+    for symbol in symbols {
+        let _same = symbol.held();
     }
 }

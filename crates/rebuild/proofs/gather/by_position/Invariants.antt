@@ -1,9 +1,11 @@
-use Rattle.std.proofs.Common.{◌≡◌, ℕ, ◌<◌, length, get_or, drop}
+use Rattle.std.proofs.Common.{◌≡◌, ℕ, ◌<◌, length, get_or}
 use Rattle.rebuild.specs.Gathered.{fetched_of}
 use Rattle.rebuild.proofs.gather.by_position.Given as goal
 
-abbrev pub invariant-loop-i : goal.invariant-loop-i
-invariant-loop-i g l =
-    let s = g.S.Symbol in
+-- the symbols so far stand for the entries that the loop has passed
+abbrev pub invariant-loop-entry : goal.invariant-loop-entry
+invariant-loop-entry g l =
+    let none = g.S.Symbol.zero in
+    let rest = l.entry-iterator.iter in
     (length l.symbols ≡ 14)
-    × ((p : ℕ) → p < 14 → get_or l.symbols p s.zero ≡ fetched_of s.zero (drop l.i l.list) (drop l.i l.fetched) l.half p)
+    × ((p : ℕ) → p < 14 → fetched_of none l.list l.fetched l.half p ≡ fetched_of (get_or l.symbols p none) rest.a.rest.now rest.b.rest.now l.half p)

@@ -1,5 +1,7 @@
 mod Fill
+mod Arrays
 mod Backwards
+mod Standing
 pub mod Gathering
 mod TenProducts
 pub mod Exchange

@@ -1,5 +1,6 @@
 // The ten positions that a rebuild solves.
 ghost use Rattle.std.specs.Prelude.{◌≡◌, ℕ, ◌<◌, false, not, ◌&&◌, get_or, ◌==◌, nat_lt, slice_index_or};
+ghost use Rattle.tables.specs.Codewords.{count};
 ghost use Rattle.codes.specs.Lists.{lowest as among_lowest};
 ghost use Rattle.rebuild.specs.Plans.{solved_at, stands_in};
 
@@ -14,24 +15,20 @@ pub(crate) fn solved_positions(short: bool, standing: &[bool; 14], u: usize) -> 
 fn front(u: usize) -> [bool; 14]
     ensures { (p : ℕ) → p < 14 → slice_index_or result p false ≡ nat_lt p 11 && not (p == u) }
 {
-    let mut chosen = [false; 14];
-    for p in 0..14usize {
-        chosen[p] = p < 11 && p != u;
-    }
-    chosen
+    std::array::from_fn(|p| p < 11 && p != u)
 }
 
-// The ten lowest that stand.
+// The ten lowest that stand: below each stand fewer than ten.
 pub(crate) fn lowest(standing: &[bool; 14]) -> [bool; 14]
     ensures { (p : ℕ) → p < 14 → slice_index_or result p false ≡ among_lowest 10 (λ q. get_or standing.now q false) p }
 {
-    let mut chosen = [false; 14];
-    let mut seen = 0usize;
-    for p in 0..14usize {
-        if standing[p] {
-            chosen[p] = seen < 10;
-            seen += 1;
-        }
-    }
-    chosen
+    std::array::from_fn(|p| standing[p] && standing_below(standing, p) < 10)
+}
+
+// How many stand below position p.
+fn standing_below(standing: &[bool; 14], p: usize) -> usize
+    requires { p < 14 }
+    ensures { result ≡ count p (λ q. get_or standing.now q false) }
+{
+    standing[..p].iter().filter(|stands| **stands).count()
 }

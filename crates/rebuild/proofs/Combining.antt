@@ -1,5 +1,5 @@
 -- What a tableau gives for columns and data of any kind of symbol.
-use Rattle.std.proofs.Common.{◌≡◌, ℕ, ◌+◌, ◌-◌, ◌*◌, ◌<◌, Bool, true, false, cond, ltb, List, get_or, sym, refl, ap, ◌∙◌, subst, ap₂, arith}
+use Rattle.std.proofs.Common.{◌≡◌, ℕ, ◌-◌, ◌<◌, Bool, true, false, cond, ltb, List, get_or, sym, refl, ap, ◌∙◌, subst, ap₂, arith}
 use lib.Bits.{bit_xor}
 use Rattle.field.specs.Arithmetic.{gmul}
 use Rattle.field.specs.Space.{Space, dot}
@@ -15,10 +15,9 @@ use Rattle.fillings.proofs.Codewords.{single, single_byte, row, row_byte, codewo
 use Rattle.fillings.proofs.Units.{mix, added_same, added_ok, first_is, second_is, second_ok}
 use Rattle.rebuild.specs.Gathered.{first_alone, second_alone}
 use Rattle.rebuild.specs.Tableaus.{at, Solved}
-use Rattle.rebuild.proofs.Steps.{small_at}
 
 module _ {S : Type 0} {ok : S → Type 0} {none : S} {sum : S → S → S} {times : ℕ → S → S} (𝓢 : Space ok none sum times)
-    {R : ℕ → ℕ → ℕ} (𝓡 : Sound R) {ch : ℕ → Bool} {t basis : List ℕ} (𝓣 : Solved R ch t basis) where
+    {R : ℕ → ℕ → ℕ} (𝓡 : Sound R) {ch : ℕ → Bool} {t : List (List ℕ)} {basis : List ℕ} (𝓣 : Solved R ch t basis) where
   abbrev C : (ℕ → S) → ℕ → S
   C = codeword none sum times R
 
@@ -30,7 +29,7 @@ module _ {S : Type 0} {ok : S → Type 0} {none : S} {sum : S → S → S} {time
       (λ j h. sym (codeword_single R 𝓡.small j h p) ∙ 𝓣.holds (single j) (single_byte j) p hp
       ∙ dot_same 0 bit_xor gmul 10 (at t p) (at t p) _ _ (λ k q. refl) (λ k q. codeword_single R 𝓡.small j h (get_or basis k 0)))
       (λ j h. refl)
-      ∙ dot_swap 𝓢 10 10 (at t p) (λ k. row R 𝓡.small (get_or basis k 0)) s (λ k. small_at t 𝓣.size 𝓣.small (p * 10 + k)) (λ k j. row_byte R 𝓡.small (get_or basis k 0) j) hs
+      ∙ dot_swap 𝓢 10 10 (at t p) (λ k. row R 𝓡.small (get_or basis k 0)) s (𝓣.small p) (λ k j. row_byte R 𝓡.small (get_or basis k 0) j) hs
       ∙ dot_same none sum times 10 (at t p) (at t p) _ _ (λ k q. refl) (λ k q. sym (codeword_row R 𝓡.small 𝓢 s hs (get_or basis k 0)))
 
   -- a column that has the symbols v at the chosen positions, from those

@@ -1,9 +1,8 @@
-mod Fill
+pub mod Gathering
 mod Arrays
 mod Backwards
+mod Rows
 mod Standing
-pub mod Gathering
-mod TenProducts
 pub mod Exchange
 pub mod Pivoting
 pub mod Steps

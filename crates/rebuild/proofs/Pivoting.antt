@@ -3,19 +3,13 @@ use Rattle.std.proofs.Common.{◌≡◌, ℕ, zero, suc, ◌<◌, ◌≢◌, sym
 use lib.Bits.{bit_xor, xor_assoc, xor_self, xor_zero_l}
 use Rattle.field.specs.Arithmetic.{gmul, inverse}
 use Rattle.field.specs.Space.{Space, dot}
-use Rattle.field.proofs.Dots.{swap4, unit_right, dot_same, dot_mix, dot_none}
+use Rattle.field.proofs.Dots.{swap4, dot_same, dot_mix}
+use Rattle.field.proofs.DotSums.{back, dot_ok}
 use Rattle.field.specs.Products.{gmul_lt, gmul_assoc, gmul_comm, gmul_one_l, gmul_inverse, inverse_lt}
 
 module _ {S : Type 0} {ok : S → Type 0} {none : S} {sum : S → S → S} {times : ℕ → S → S} (𝓢 : Space ok none sum times) where
   abbrev D : ℕ → (ℕ → ℕ) → (ℕ → S) → S
   D = dot none sum times
-
-  back : (x y : S) → ok x → ok y → sum (sum x y) y ≡ x
-  back x y hx hy = 𝓢.assoc x y y ∙ ap (sum x) (𝓢.self y hy) ∙ unit_right 𝓢 x hx
-
-  pub D_ok : (n : ℕ) (r : ℕ → ℕ) (x : ℕ → S) → ((k : ℕ) → r k < 256) → ((k : ℕ) → ok (x k)) → ok (D n r x)
-  D_ok zero r x hr hx = 𝓢.ok_zero
-  D_ok (suc n) r x hr hx = 𝓢.ok_sum _ _ (𝓢.ok_times (r 0) (x 0) (hr 0) (hx 0)) (D_ok n _ _ (λ k. hr (suc k)) (λ k. hx (suc k)))
 
   -- a + rest with b in the place of a, where a + a is nothing
   replaced : (a b rest : S) → ok a → ok b → ok rest → sum b rest ≡ sum (sum a rest) (sum a b)
@@ -29,7 +23,7 @@ module _ {S : Type 0} {ok : S → Type 0} {none : S} {sum : S → S → S} {time
   dot_set (suc n) zero h r v w hr hv hw e =
       ap (sum _) (dot_same none sum times n _ _ _ _ (λ k q. refl) (λ k q. e (suc k) (omega arith)))
       ∙ replaced (times (r 0) (v 0)) (times (r 0) (w 0)) _ (𝓢.ok_times (r 0) (v 0) (hr 0) (hv 0)) (𝓢.ok_times (r 0) (w 0) (hr 0) (hw 0))
-      (D_ok n _ _ (λ k. hr (suc k)) (λ k. hv (suc k)))
+      (dot_ok 𝓢 n _ _ (λ k. hr (suc k)) (λ k. hv (suc k)))
       ∙ ap (sum _) (sym (𝓢.right (r 0) (v 0) (w 0)))
   dot_set (suc n) (suc i) h r v w hr hv hw e =
       ap₂ sum (ap (times (r 0)) (e 0 (omega arith)))
@@ -44,7 +38,7 @@ module _ {S : Type 0} {ok : S → Type 0} {none : S} {sum : S → S → S} {time
   dot_set_row (suc n) zero h r s x hr hs hx e =
       ap (sum _) (dot_same none sum times n _ _ _ _ (λ k q. e (suc k) (omega arith)) (λ k q. refl))
       ∙ replaced (times (r 0) (x 0)) (times (s 0) (x 0)) _ (𝓢.ok_times (r 0) (x 0) (hr 0) (hx 0)) (𝓢.ok_times (s 0) (x 0) (hs 0) (hx 0))
-      (D_ok n _ _ (λ k. hr (suc k)) (λ k. hx (suc k)))
+      (dot_ok 𝓢 n _ _ (λ k. hr (suc k)) (λ k. hx (suc k)))
       ∙ ap (sum _) (sym (𝓢.left (r 0) (s 0) (x 0)))
   dot_set_row (suc n) (suc i) h r s x hr hs hx e =
       ap₂ sum (ap (λ c. times c (x 0)) (e 0 (omega arith)))
@@ -61,7 +55,7 @@ module _ {S : Type 0} {ok : S → Type 0} {none : S} {sum : S → S → S} {time
   step n i h row prow u v w x hrow hp hu hv hw np ue ui we ex eq = sym
       (dot_mix 𝓢 n f row u w hf hu hw
       ∙ ap₂ sum (dot_set n i h row v w hrow hv hw we) (ap (times f) other ∙ sym (𝓢.twice f a t hf (hp i) okt) ∙ ap (λ c. times c t) scaled)
-      ∙ back (D n row v) (times (row i) t) (D_ok n row v hrow hv) (𝓢.ok_times (row i) t (hrow i) okt) ∙ sym ex)
+      ∙ back 𝓢 (D n row v) (times (row i) t) (dot_ok 𝓢 n row v hrow hv) (𝓢.ok_times (row i) t (hrow i) okt) ∙ sym ex)
     where
       a : ℕ
       a = prow i
@@ -92,11 +86,4 @@ module _ {S : Type 0} {ok : S → Type 0} {none : S} {sum : S → S → S} {time
           dot_set_row n i h prow u w hp hu hw ue
           ∙ ap₂ sum (dot_set n i h prow v w hp hv hw we ∙ ap (λ y. sum y (times a t)) (sym eq) ∙ 𝓢.comm (w i) (times a t))
           (ap (λ c. times c (w i)) lone ∙ 𝓢.one (w i) (hw i))
-          ∙ back (times a t) (w i) (𝓢.ok_times a t (hp i) okt) (hw i)
-
-  -- a row of one 1
-  pub dot_one : (n i : ℕ) → i < n → (e : ℕ → ℕ) (x : ℕ → S) → e i ≡ 1 → ((k : ℕ) → k ≢ i → e k ≡ 0) → ((k : ℕ) → e k < 256) → ((k : ℕ) → ok (x k)) → D n e x ≡ x i
-  dot_one n i h e x one zeros he hx =
-      dot_set_row n i h (λ _. 0) e x (λ k. lit< tt) he hx zeros
-      ∙ ap₂ sum (dot_none 𝓢 n (λ _. 0) x (λ k. refl) hx) (ap (λ c. times c (x i)) (xor_zero_l (e i) ∙ one) ∙ 𝓢.one (x i) (hx i))
-      ∙ 𝓢.unit (x i) (hx i)
+          ∙ back 𝓢 (times a t) (w i) (𝓢.ok_times a t (hp i) okt) (hw i)

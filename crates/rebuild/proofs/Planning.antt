@@ -60,7 +60,7 @@ module _ {S : Type 0} {ok : S → Type 0} {none : S} {sum : S → S → S} {time
   module _ {v : Version} {t : Table} {standing : List Bool} {u : ℕ} {short : Bool} {list : FetchList} {tableau : Tableau}
       (𝓟 : Planned v t standing u short list tableau) (x y : ℕ → S) where
     -- by a short list
-    pub only_short : short ≡ true → (b : ℕ → S) → ((k : ℕ) → k < 10 → b k ≡ dot none sum times 10 (at tableau.entries k) (λ i. y (get_or tableau.basis i 0)))
+    pub only_short : short ≡ true → (b : ℕ → S) → ((k : ℕ) → k < 10 → b k ≡ dot none sum times 10 (at tableau.rows k) (λ i. y (get_or tableau.basis i 0)))
         → (q : S × S) → Rebuilt ok none sum times v (entry t) (stands_in standing) (u - 1) x y q → q ≡ (piece none sum times v (entry t) x y b (u - 1), b (u - 1))
     only_short is b made q r = go (is_short_for v (stands_in standing) (u - 1)) refl (sym 𝓟.short_is ∙ is) r
       where

@@ -1,54 +1,63 @@
 -- The steps of the exchange: what each turn keeps, and that the law leaves a slot to take.
-use Rattle.std.proofs.Common.{◌≡◌, ℕ, zero, suc, ◌+◌, ◌-◌, ◌*◌, ◌/◌, ◌%◌, ◌<◌, ◌≤◌, Bool, true, false, cond, not, T, eqb, ltb, ◌≢◌, List, [], ◌∷◌, length, get_or, set, sym, refl, ap, ◌∙◌, subst, ap₂, ⊎_elim, le_of_suc-le-suc, not-suc-le-zero, add-zero, eq-or-lt_of_le, arith, lit<, ltb→lt, lt→ltb, nltb→le, length-set, get_or-set_other, get_or-set_same}
+use Rattle.std.proofs.Common.{◌≡◌, ℕ, zero, suc, ◌+◌, ◌-◌, ◌<◌, ◌≤◌, Bool, true, false, not, T, ltb, ◌≢◌, List, [], length, get_or, set, sym, refl, ap, ◌∙◌, subst, ap₂, le_of_suc-le-suc, not-suc-le-zero, arith, lit<, ltb→lt, nltb→le, length-set, get_or-set_other, get_or-set_same}
 use native.Mathlib.Decide.{ℕ_discrete}
 use Rattle.std.proofs.lemmas.List.{get_or_past}
 use lib.Bits.{bit_xor, xor_zero_r, xor_lt}
-use Rattle.field.specs.Arithmetic.{gmul, inverse}
+use Rattle.field.specs.Arithmetic.{gmul}
 use Rattle.field.specs.Space.{dot}
 use Rattle.field.specs.BytesSpace.{bytes}
 use Rattle.field.proofs.Dots.{dot_same}
 use Rattle.field.specs.Products.{gmul_lt, inverse_lt, gmul_zero_l, gmul_zero_r}
 use Rattle.tables.specs.Codewords.{bit, count, codeword, Bytes, Sound}
 use Rattle.tables.proofs.Counts.{count_more}
-use Rattle.tables.proofs.Tests.{T_true}
-use Rattle.rebuild.specs.Tableaus.{at, start_at, pivot_at, exchanged, Slot, Holds, Solved}
+use Rattle.tables.proofs.Tests.{low}
+use Rattle.fillings.proofs.Codewords.{single, single_byte, single_same, single_other, row_byte, codeword_row, codeword_ok}
+use Rattle.rebuild.specs.Tableaus.{row, at, ten, start_at, pivot_at, exchanged, Holds, Solved}
 use Rattle.rebuild.proofs.Exchange.{Reached}
-use Rattle.rebuild.proofs.Fill.{bit_same, bit_other, bit_byte}
-use Rattle.rebuild.proofs.Pivoting.{step, D_ok, dot_one}
+use Rattle.rebuild.proofs.Pivoting.{step}
+use Rattle.rebuild.proofs.Rows.{length-ten, get_or-ten}
 
 abbrev W : (ℕ → ℕ → ℕ) → (ℕ → ℕ) → ℕ → ℕ
 W = codeword 0 bit_xor gmul
 
-word_byte : (R : ℕ → ℕ → ℕ) → ((l k : ℕ) → R l k < 256) → (d : ℕ → ℕ) → Bytes d → (p : ℕ) → W R d p < 256
-word_byte R hR d hd p = go (ltb p 10)
-  where
-    go : (b : Bool) → cond b (d p) (dot 0 bit_xor gmul 10 (R (p - 10)) d) < 256
-    go true = hd p
-    go false = D_ok bytes 10 (R (p - 10)) d (hR (p - 10)) hd
+-- rows that are written out
+module _ (t : List (List ℕ)) (f : ℕ → ℕ → ℕ) (e : (p : ℕ) → p < 14 → row t p ≡ ten (f p)) where
+  row_size : (p : ℕ) → p < 14 → length (row t p) ≡ 10
+  row_size p h = ap length (e p h) ∙ length-ten (f p)
 
--- an entry is a byte at every number, 0 outside
-pub small_at : (t : List ℕ) → length t ≡ 140 → ((n : ℕ) → n < 140 → get_or t n 0 < 256) → (n : ℕ) → get_or t n 0 < 256
-small_at t size h n = go (ltb n 140) refl
-  where
-    go : (b : Bool) → ltb n 140 ≡ b → get_or t n 0 < 256
-    go true e = h n (ltb→lt n 140 (subst T (sym e) tt))
-    go false e = subst (λ (x : ℕ). x < 256) (sym (get_or_past t n 0 (past e))) (lit< tt)
-      where
-        past : ltb n 140 ≡ false → length t ≤ n
-        past e = subst (λ (m : ℕ). m ≤ n) (sym size) (nltb→le n 140 (subst (λ (b : Bool). T (not b)) (sym e) tt))
+  at_is : (p : ℕ) → p < 14 → (k : ℕ) → k < 10 → at t p k ≡ f p k
+  at_is p h k l = ap (λ r. get_or r k 0) (e p h) ∙ get_or-ten (f p) k l
+
+  -- a coefficient is a byte at every position and slot, 0 outside
+  all_small : length t ≡ 14 → ((p k : ℕ) → f p k < 256) → (p k : ℕ) → at t p k < 256
+  all_small size small p k = go (ltb p 14) refl (ltb k 10) refl
+    where
+      outside : (n m : ℕ) → ltb n m ≡ false → m ≤ n
+      outside n m h = nltb→le n m (subst (λ (b : Bool). T (not b)) (sym h) tt)
+
+      inside : (n m : ℕ) → ltb n m ≡ true → n < m
+      inside n m h = ltb→lt n m (subst T (sym h) tt)
+
+      none : at t p k ≡ 0 → at t p k < 256
+      none z = subst (λ (x : ℕ). x < 256) (sym z) (lit< tt)
+
+      go : (a : Bool) → ltb p 14 ≡ a → (b : Bool) → ltb k 10 ≡ b → at t p k < 256
+      go true h true l = subst (λ (x : ℕ). x < 256) (sym (at_is p (inside p 14 h) k (inside k 10 l))) (small p k)
+      go true h false l = none (get_or_past (row t p) k 0 (subst (λ (m : ℕ). m ≤ k) (sym (row_size p (inside p 14 h))) (outside k 10 l)))
+      go false h b l = none (ap (λ r. get_or r k 0) (get_or_past t p [] (subst (λ (m : ℕ). m ≤ p) (sym size) (outside p 14 h))))
 
 module _ (R : ℕ → ℕ → ℕ) (hR : (l k : ℕ) → R l k < 256) where
-  exchange_holds : (t t' basis : List ℕ) (q i : ℕ) → q < 14 → i < 10 → length basis ≡ 10 → ((n : ℕ) → get_or t n 0 < 256)
-      → at t q i ≢ 0 → ((n : ℕ) → n < 140 → get_or t' n 0 ≡ exchanged t q i n) → Holds R t basis → Holds R t' (set basis i q)
+  exchange_holds : (t t' : List (List ℕ)) (basis : List ℕ) (q i : ℕ) → q < 14 → i < 10 → length basis ≡ 10 → ((p k : ℕ) → at t p k < 256)
+      → at t q i ≢ 0 → ((p : ℕ) → p < 14 → row t' p ≡ ten (exchanged t q i p)) → Holds R t basis → Holds R t' (set basis i q)
   exchange_holds t t' basis q i hq hi hb hs nz ex holds d hd p hp =
       step bytes 10 i hi (at t p) (at t q) (pivot_at t q i) v w (W R d p)
-      (λ k. hs (p * 10 + k)) (λ k. hs (q * 10 + k)) (λ k. xor_lt 8 _ _ (hs (q * 10 + k)) (bit_byte (eqb k i)))
-      (λ k. word_byte R hR d hd (get_or basis k 0)) (λ k. word_byte R hR d hd (get_or (set basis i q) k 0)) nz
-      (λ k n. ap (bit_xor (at t q k)) (bit_other k i n) ∙ xor_zero_r (at t q k))
-      (ap (bit_xor (at t q i)) (bit_same i i refl))
+      (hs p) (hs q) (λ k. xor_lt 8 _ _ (hs q k) (single_byte i k))
+      (λ k. codeword_ok R hR bytes d hd (get_or basis k 0)) (λ k. codeword_ok R hR bytes d hd (get_or (set basis i q) k 0)) nz
+      (λ k n. ap (bit_xor (at t q k)) (single_other i k n) ∙ xor_zero_r (at t q k))
+      (ap (bit_xor (at t q i)) (single_same i))
       (λ k n. ap (W R d) (get_or-set_other basis i k q 0 n))
       (holds d hd p hp) (wi ∙ holds d hd q hq)
-      ∙ dot_same 0 bit_xor gmul 10 new (at t' p) w w (λ k h. sym (entry_at k h)) (λ k h. refl)
+      ∙ dot_same 0 bit_xor gmul 10 (exchanged t q i p) (at t' p) w w (λ k h. sym (at_is t' (exchanged t q i) ex p hp k h)) (λ k h. refl)
     where
       v : ℕ → ℕ
       v k = W R d (get_or basis k 0)
@@ -58,16 +67,6 @@ module _ (R : ℕ → ℕ → ℕ) (hR : (l k : ℕ) → R l k < 256) where
 
       wi : w i ≡ W R d q
       wi = ap (W R d) (get_or-set_same basis i q 0 (omega arith))
-
-      new : ℕ → ℕ
-      new k = bit_xor (at t p k) (gmul (gmul (at t p i) (inverse (at t q i))) (pivot_at t q i k))
-
-      entry_at : (k : ℕ) → k < 10 → at t' p k ≡ new k
-      entry_at k h =
-          let a : (p * 10 + k) / 10 ≡ p = omega arith in
-          let b : (p * 10 + k) % 10 ≡ k = omega arith in
-          ex (p * 10 + k) (omega arith)
-          ∙ ap₂ (λ x y. bit_xor (at t p k) (gmul (gmul (at t x i) (inverse (at t q i))) (pivot_at t q i y))) a b
 
 pub count_same : (n : ℕ) (f g : ℕ → Bool) → ((k : ℕ) → k < n → g k ≡ f k) → count n g ≡ count n f
 count_same zero f g e = refl
@@ -108,24 +107,20 @@ halves (suc n) f = omega (arith, bits (f 0), halves n (λ k. f (suc k)))
 apart : (f : ℕ → Bool) → count 14 f ≡ count 10 f + count 4 (λ l. f (10 + l))
 apart f = omega arith
 
--- what the law's column of 1 at q and 0 at the other chosen positions says
-unit_at : ℕ → ℕ → ℕ
-unit_at q p = bit (eqb p q)
-
 module _ (R : ℕ → ℕ → ℕ) (𝓡 : Sound R) (ch : ℕ → Bool) where
   -- the row of a chosen q cannot be 0 at every unchosen basis position
   slot : count 14 ch ≡ 10 → (t : ℕ → ℕ) (basis : ℕ → ℕ) (q : ℕ) → q < 14 → ch q ≡ true
       → ((k : ℕ) → k < 10 → basis k < 14) → ((k : ℕ) → k < 10 → basis k ≢ q)
       → ((d : ℕ → ℕ) → Bytes d → W R d q ≡ dot 0 bit_xor gmul 10 t (λ k. W R d (basis k)))
       → ((k : ℕ) → k < 10 → ch (basis k) ≡ false → t k ≡ 0) → ⊥
-  unfolding unit_at
-  slot ten t basis q hq cq hb nb holds zeros =
-      let u = 𝓡.law ch (unit_at q) (λ p. bit_byte (eqb p q)) ten in
+  slot chosen t basis q hq cq hb nb holds zeros =
+      -- the column of 1 at q and 0 at the other chosen positions
+      let u = 𝓡.law ch (single q) (single_byte q) chosen in
       let d = u.one in
-      let one : W R d q ≡ 1 = u.fits q hq cq ∙ bit_same q q refl in
+      let one : W R d q ≡ 1 = u.fits q hq cq ∙ single_same q in
       let none : dot 0 bit_xor gmul 10 t (λ k. W R d (basis k)) ≡ 0 =
       all_zero 10 t (λ k. W R d (basis k))
-      (λ k h. term (t k) (W R d (basis k)) (ch (basis k)) (λ e. u.fits (basis k) (hb k h) e ∙ bit_other (basis k) q (nb k h)) (zeros k h)) in
+      (λ k h. term (t k) (W R d (basis k)) (ch (basis k)) (λ e. u.fits (basis k) (hb k h) e ∙ single_other q (basis k) (nb k h)) (zeros k h)) in
       let z : ◌≡◌ {A = ℕ} 0 1 = sym none ∙ sym (holds d u.bytes) ∙ one in
       omega arith
     where
@@ -137,9 +132,10 @@ module _ (R : ℕ → ℕ → ℕ) (𝓡 : Sound R) (ch : ℕ → Bool) where
       all_zero zero r x h = refl
       all_zero (suc n) r x h = ap₂ bit_xor (h 0 (omega arith)) (all_zero n _ _ (λ k q. h (suc k) (omega arith)))
 
-  pub keep : (q : ℕ) (t basis : List ℕ) → 10 ≤ q → ch q ≡ false → Reached R ch q t basis → Reached R ch (q + 1) t basis
+  pub keep : (q : ℕ) (t : List (List ℕ)) (basis : List ℕ) → 10 ≤ q → ch q ≡ false → Reached R ch q t basis → Reached R ch (q + 1) t basis
   keep q t basis h e s = record {
     size = s.size;
+    row_size = s.row_size;
     width = s.width;
     small = s.small;
     below = λ k l. omega (arith, s.below k l);
@@ -147,16 +143,17 @@ module _ (R : ℕ → ℕ → ℕ) (𝓡 : Sound R) (ch : ℕ → Bool) where
     left = omega (arith, s.left, count_next q ch h, ap bit e);
   }
 
-  pub advance : (q i : ℕ) (t t' basis : List ℕ) → 10 ≤ q → q < 14 → i < 10 → ch q ≡ true → ch (get_or basis i 0) ≡ false → at t q i ≢ 0
-      → length t' ≡ 140 → ((n : ℕ) → n < 140 → get_or t' n 0 ≡ exchanged t q i n)
+  pub advance : (q i : ℕ) (t t' : List (List ℕ)) (basis : List ℕ) → 10 ≤ q → q < 14 → ch q ≡ true → i < 10 → ch (get_or basis i 0) ≡ false → at t q i ≢ 0
+      → length t' ≡ 14 → ((p : ℕ) → p < 14 → row t' p ≡ ten (exchanged t q i p))
       → Reached R ch q t basis → Reached R ch (q + 1) t' (set basis i q)
-  advance q i t t' basis h hq hi c f nz size ex s = record {
+  advance q i t t' basis h hq c hi f nz size ex s = record {
     size = size;
+    row_size = row_size t' (exchanged t q i) ex;
     width = length-set basis i q ∙ s.width;
-    small = λ n l. subst (λ (x : ℕ). x < 256) (sym (ex n l)) (xor_lt 8 _ _ (s.small n l)
-        (gmul_lt _ _ (gmul_lt _ _ (hs (n / 10 * 10 + i)) (inverse_lt _ (hs (q * 10 + i)))) (xor_lt 8 _ _ (hs (q * 10 + n % 10)) (bit_byte (eqb (n % 10) i)))));
+    small = all_small t' (exchanged t q i) ex size (λ p k. xor_lt 8 _ _ (s.small p k)
+        (gmul_lt _ _ (gmul_lt _ _ (s.small p i) (inverse_lt _ (s.small q i))) (xor_lt 8 _ _ (s.small q k) (single_byte i k))));
     below = below;
-    holds = exchange_holds R 𝓡.small t t' basis q i hq hi s.width hs nz ex s.holds;
+    holds = exchange_holds R 𝓡.small t t' basis q i hq hi s.width s.small nz ex s.holds;
     left = omega (
       arith,
       s.left,
@@ -167,9 +164,6 @@ module _ (R : ℕ → ℕ → ℕ) (𝓡 : Sound R) (ch : ℕ → Bool) where
     );
   }
     where
-      hs : (n : ℕ) → get_or t n 0 < 256
-      hs = small_at t s.size s.small
-
       same : get_or (set basis i q) i 0 ≡ q
       same = get_or-set_same basis i q 0 (subst (λ (n : ℕ). i < n) (sym s.width) hi)
 
@@ -180,17 +174,17 @@ module _ (R : ℕ → ℕ → ℕ) (𝓡 : Sound R) (ch : ℕ → Bool) where
             | no n ↦ subst (λ (x : ℕ). x < q + 1) (sym (get_or-set_other basis i k q 0 n)) (omega (arith, s.below k l))
           ]
 
-  pub found : (q i : ℕ) (t basis : List ℕ) (chs : List Bool) → count 14 ch ≡ 10 → 10 ≤ q → q < 14 → ch q ≡ true
-      → ((p : ℕ) → get_or chs p false ≡ ch p) → Slot t basis chs q i → Reached R ch q t basis → i < 10
-  found q i t basis chs ten h hq c same slots s =
-      ⊎_elim
-      (λ e. absurd (slot ten (at t q) (λ k. get_or basis k 0) q hq c (λ k l. omega (arith, s.below k l)) (λ k l. omega (arith, s.below k l))
-      (λ d hd. s.holds d hd q hq) (λ k l f. slots.none e k l (same (get_or basis k 0) ∙ f))))
-      (λ l. l) (eq-or-lt_of_le slots.upto)
+  -- so there is a slot
+  pub found : count 14 ch ≡ 10 → (q : ℕ) (t : List (List ℕ)) (basis : List ℕ) → 10 ≤ q → q < 14 → ch q ≡ true
+      → Reached R ch q t basis → ((k : ℕ) → k < 10 → ch (get_or basis k 0) ≡ false → at t q k ≡ 0) → ⊥
+  found chosen q t basis h hq c s none =
+      slot chosen (at t q) (λ k. get_or basis k 0) q hq c (λ k l. omega (arith, s.below k l)) (λ k l. omega (arith, s.below k l))
+      (λ d hd. s.holds d hd q hq) none
 
-  pub done : (t basis : List ℕ) → count 14 ch ≡ 10 → Reached R ch 14 t basis → Solved R ch t basis
-  done t basis ten s = record {
+  pub done : (t : List (List ℕ)) (basis : List ℕ) → count 14 ch ≡ 10 → Reached R ch 14 t basis → Solved R ch t basis
+  done t basis chosen s = record {
     size = s.size;
+    row_size = s.row_size;
     width = s.width;
     small = s.small;
     places = s.below;
@@ -205,48 +199,16 @@ module _ (R : ℕ → ℕ → ℕ) (𝓡 : Sound R) (ch : ℕ → Bool) where
       flip true f = refl
       flip false f = absurd (f refl)
 
-abbrev pub from : ℕ → ℕ → List ℕ
-from i zero = []
-from i (suc n) = i ∷ from (suc i) n
-
-from_at : (n i k : ℕ) → k < n → get_or (from i n) k 0 ≡ i + k
-from_at zero i k h = absurd (not-suc-le-zero h)
-from_at (suc n) i zero h = sym (add-zero i)
-from_at (suc n) i (suc k) h = from_at n (suc i) k (le_of_suc-le-suc h) ∙ omega arith
-
-module _ (R : ℕ → ℕ → ℕ) (ch : ℕ → Bool) where
-  pub begin : (t : List ℕ) → length t ≡ 140 → ((n : ℕ) → n < 140 → get_or t n 0 < 256) → ((n : ℕ) → n < 140 → get_or t n 0 ≡ start_at R n)
-      → Reached R ch 10 t (from 0 10)
-  begin t size small is = record {
+  pub begin : (t : List (List ℕ)) (basis : List ℕ) → length t ≡ 14 → length basis ≡ 10 → ((k : ℕ) → k < 10 → get_or basis k 0 ≡ k)
+      → ((p : ℕ) → p < 14 → row t p ≡ ten (start_at R p)) → Reached R ch 10 t basis
+  begin t basis size width places is = record {
     size = size;
-    width = refl;
-    small = small;
-    below = λ k h. omega (arith, from_at 10 0 k h);
-    holds = holds;
-    left = omega arith;
+    row_size = row_size t (start_at R) is;
+    width = width;
+    small = all_small t (start_at R) is size (row_byte R 𝓡.small);
+    below = λ k h. omega (arith, places k h);
+    holds = λ d hd p hp. codeword_row R 𝓡.small bytes d hd p
+        ∙ dot_same 0 bit_xor gmul 10 (start_at R p) (at t p) d (λ k. W R d (get_or basis k 0)) (λ k h. sym (at_is t (start_at R) is p hp k h))
+        (λ k h. sym (ap (W R d) (places k h) ∙ low (d k) (dot 0 bit_xor gmul 10 (R (k - 10)) d) k h));
+    left = omega (arith, count_same 10 (λ k. not (ch k)) (λ k. not (ch (get_or basis k 0))) (λ k h. ap (λ p. not (ch p)) (places k h)));
   }
-    where
-      entry_at : (p k : ℕ) → p < 14 → k < 10 → at t p k ≡ cond (ltb p 10) (bit (eqb p k)) (R (p - 10) k)
-      entry_at p k hp hk =
-          let a : (p * 10 + k) / 10 ≡ p = omega arith in
-          let b : (p * 10 + k) % 10 ≡ k = omega arith in
-          is (p * 10 + k) (omega arith) ∙ ap₂ (λ x y. cond (ltb x 10) (bit (eqb x y)) (R (x - 10) y)) a b
-
-      data_word : (d : ℕ → ℕ) (k : ℕ) → k < 10 → d k ≡ W R d (get_or (from 0 10) k 0)
-      data_word d k h =
-          let e : get_or (from 0 10) k 0 ≡ k = from_at 10 0 k h ∙ omega arith in
-          sym (ap (W R d) e ∙ ap (λ b. cond b (d k) (dot 0 bit_xor gmul 10 (R (k - 10)) d)) (T_true (ltb k 10) (lt→ltb k 10 h)))
-
-      holds : Holds R t (from 0 10)
-      holds d hd p hp = go (ltb p 10) refl
-        where
-          go : (b : Bool) → ltb p 10 ≡ b → W R d p ≡ dot 0 bit_xor gmul 10 (at t p) (λ k. W R d (get_or (from 0 10) k 0))
-          go true e =
-              ap (λ b. cond b (d p) (dot 0 bit_xor gmul 10 (R (p - 10)) d)) e
-              ∙ sym (dot_one bytes 10 p (ltb→lt p 10 (subst T (sym e) tt)) (λ k. bit (eqb p k)) d (bit_same p p refl) (λ k n. bit_other p k (λ x. n (sym x))) (λ k. bit_byte (eqb p k)) hd)
-              ∙ dot_same 0 bit_xor gmul 10 (λ k. bit (eqb p k)) (at t p) d (λ k. W R d (get_or (from 0 10) k 0))
-              (λ k h. sym (entry_at p k hp h ∙ ap (λ b. cond b (bit (eqb p k)) (R (p - 10) k)) e)) (data_word d)
-          go false e =
-              ap (λ b. cond b (d p) (dot 0 bit_xor gmul 10 (R (p - 10)) d)) e
-              ∙ dot_same 0 bit_xor gmul 10 (R (p - 10)) (at t p) d (λ k. W R d (get_or (from 0 10) k 0))
-              (λ k h. sym (entry_at p k hp h ∙ ap (λ b. cond b (bit (eqb p k)) (R (p - 10) k)) e)) (data_word d)

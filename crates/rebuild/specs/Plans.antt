@@ -23,7 +23,7 @@ solved_at short stands u p = cond short (nat_lt p 11 && not (p == u)) (lowest 10
 
 -- The plan for the missing unit u under a version and a table that admits it, where ten units stand: its fetch list and its tableau.
 pub record Planned (v : Version) (t : Table) (standing : List Bool) (u : ℕ) (short : Bool) (list : FetchList) (tableau : Tableau) : Type 0 where
-  pub fair : Fair (entry t) (λ p. get_or tableau.chosen p false) tableau.entries tableau.basis
+  pub fair : Fair (entry t) (λ p. get_or tableau.chosen p false) tableau.rows tableau.basis
   pub admits : Admits v (entry t)
   pub low : 1 ≤ u
   pub high : u ≤ 14

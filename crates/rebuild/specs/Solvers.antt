@@ -13,7 +13,7 @@ use Rattle.rebuild.specs.declared.tableau.Tableau.{Tableau}
 
 -- ten units stand, and the tableau is of the ten lowest of them
 pub record Prepared (t : Table) (standing : List Bool) (tableau : Tableau) : Type 0 where
-  pub fair : Fair (entry t) (λ p. get_or tableau.chosen p false) tableau.entries tableau.basis
+  pub fair : Fair (entry t) (λ p. get_or tableau.chosen p false) tableau.rows tableau.basis
   pub ten : 10 ≤ count 14 (stands_in standing)
   pub chosen_is : (p : ℕ) → p < 14 → slice_index_or tableau.chosen p false ≡ lowest 10 (stands_in standing) p
 

@@ -4,7 +4,7 @@ ghost use Rattle.tables.specs.Multipliers.{entry};
 ghost use Rattle.rebuild.specs.Data.{Solves};
 ghost use Rattle.rebuild.specs.Tableaus.{Fair};
 
-use crate::columns::{column, unburdened, unmixed};
+use crate::columns::{unburdened, unmixed};
 use crate::tableau::Tableau;
 use codes::version::Version;
 use field::symbol::Symbol;
@@ -18,14 +18,10 @@ pub(crate) fn data_of<S: Symbol + Copy>(
     x: &[S; 14],
     y: &[S; 14],
 ) -> ([S; 10], [S; 10])
-    requires { ∥ Fair (entry table.now) (λ p. slice_index_or tableau.now.chosen p false) tableau.now.entries tableau.now.basis ∥₁ }
+    requires { ∥ Fair (entry table.now) (λ p. slice_index_or tableau.now.chosen p false) tableau.now.rows tableau.now.basis ∥₁ }
     ensures { Solves S.ok S.zero S.sum S.times version (entry table.now) (λ p. slice_index_or tableau.now.chosen p false) (λ p. slice_index_or x.now p S.zero) (λ p. slice_index_or y.now p S.zero) (λ k. slice_index_or result.0 k S.zero) (λ k. slice_index_or result.1 k S.zero) }
 {
-    let a = column(&tableau.entries, &tableau.basis, &unmixed(version, x, y));
-    let b = column(
-        &tableau.entries,
-        &tableau.basis,
-        &unburdened(version, table, &a, y),
-    );
+    let a = tableau.column(&unmixed(version, x, y));
+    let b = tableau.column(&unburdened(version, table, &a, y));
     (a, b)
 }

@@ -7,14 +7,13 @@ ghost use Rattle.rebuild.specs.Gathered.{fetched_by};
 ghost use Rattle.rebuild.specs.PlanCalls.{Plans};
 ghost use Rattle.rebuild.specs.Plans.{stands_in, Rebuilds, Only};
 
-use crate::columns::column;
 use crate::data::data_of;
 use crate::gather::{all_held, by_position};
 use crate::plan::Plan;
 use crate::positions::solved_positions;
 use crate::refusal::Refusal;
 use crate::short::piece;
-use crate::tableau::solve;
+use crate::tableau::Tableau;
 use codes::encode::encode_with;
 use codes::fetch::{count_standing, fetch_list, is_short};
 use codes::list::FetchList;
@@ -40,7 +39,7 @@ impl Plan {
         let table = scheme.table();
         let short = is_short(version, standing, position);
         let chosen = solved_positions(short, standing, position);
-        let tableau = solve(&table, &chosen);
+        let tableau = Tableau::solve(&table, &chosen);
         let list = fetch_list(version, standing, u);
         Ok(Plan {
             version,
@@ -97,7 +96,7 @@ impl Plan {
         ensures { Only S.ok S.zero S.sum S.times self.now.version self.now.table (stands_in self.now.standing) self.now.unit (λ p. slice_index_or x.now p S.zero) (λ p. slice_index_or y.now p S.zero) result }
     {
         let position = self.data_position();
-        let b = column(&self.tableau.entries, &self.tableau.basis, y);
+        let b = self.tableau.column(y);
         (
             piece(self.version, &self.table, x, y, &b, position),
             b[position],

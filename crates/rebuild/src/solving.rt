@@ -10,7 +10,7 @@ use crate::gather::all_held;
 use crate::positions::lowest;
 use crate::refusal::Refusal;
 use crate::solver::Solver;
-use crate::tableau::solve;
+use crate::tableau::Tableau;
 use codes::fetch::count_standing;
 use codes::scheme::Scheme;
 use field::symbol::Symbol;
@@ -26,7 +26,7 @@ impl Solver {
         let version = scheme.version();
         let table = scheme.table();
         let chosen = lowest(standing);
-        let tableau = solve(&table, &chosen);
+        let tableau = Tableau::solve(&table, &chosen);
         Ok(Solver {
             version,
             table,

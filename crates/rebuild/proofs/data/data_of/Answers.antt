@@ -1,15 +1,8 @@
-use Rattle.std.proofs.Common.{◌≡◌, ℕ, ◌<◌, get_or, ◌∙◌, rules}
+use Rattle.std.proofs.Common.{◌≡◌, ℕ, ◌<◌, get_or, ◌∙◌}
 use base.Stored.{Coded-set}
 use mathlib.Core.Logic.{∥∥₁_elim}
-use native.Mathlib.Bridge.{le_prop}
 use Rattle.rebuild.proofs.Combining.{first_solved, second_solved}
 use Rattle.rebuild.proofs.data.data_of.Goals as goal
-
-pub column-a-requires : goal.column-a-requires
-column-a-requires g c = (search rules, (search rules, λ k h. ∥∥₁_elim c.requires le_prop (λ f. f.solved.places k h)))
-
-pub column-b-requires : goal.column-b-requires
-column-b-requires g c = (search rules, (search rules, λ k h. ∥∥₁_elim c.requires le_prop (λ f. f.solved.places k h)))
 
 pub returns : goal.returns
 returns g c d e hd he fit k h =

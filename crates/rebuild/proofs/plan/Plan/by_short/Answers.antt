@@ -1,15 +1,11 @@
 use Rattle.std.proofs.Common.{◌≡◌, ℕ, ◌-◌, length, get_or, sym, ap, ◌∙◌, arith, rules}
 use base.Stored.{Coded-set, coded×}
 use mathlib.Core.Logic.{∥∥₁_elim}
-use native.Mathlib.Bridge.{le_prop}
 use Rattle.std.proofs.lemmas.List.{get_or_default}
 use Rattle.tables.specs.Multipliers.{entry}
 use Rattle.fillings.specs.Rebuilding.{piece}
 use Rattle.rebuild.proofs.Planning.{only_short}
 use Rattle.rebuild.proofs.plan.Plan.by_short.Goals as goal
-
-pub column-b-requires : goal.column-b-requires
-column-b-requires g c = (search rules, (search rules, λ k h. ∥∥₁_elim c.args.self.now.planned le_prop (λ 𝓟. 𝓟.fair.solved.places k h)))
 
 pub returns : goal.returns
 returns g c q r =

@@ -26,7 +26,7 @@ invariant_of-result g c =
           ∣ record {
             fair = record {
               sound = subst (λ (t : Table). Sound (entry t)) (sym c.table-table.ensures) (g.V.Scheme.sound s);
-              solved = subst (λ (ch : ℕ → Bool). Solved (entry c.table-table.result) ch c.solve-tableau.result.entries c.solve-tableau.result.basis) (λ i p. sym (same p) i) c.solve-tableau.ensures.solved;
+              solved = subst (λ (ch : ℕ → Bool). Solved (entry c.table-table.result) ch c.solve-tableau.result.rows c.solve-tableau.result.basis) (λ i p. sym (same p) i) c.solve-tableau.ensures.solved;
             };
             admits = subst (λ (t : Table). Admits c.version-version.result (entry t)) (sym c.table-table.ensures)
                 (subst (λ v. Admits v (entry (g.V.Scheme.table s))) (sym c.version-version.ensures) (g.met.V.Scheme.admits s));

@@ -22,7 +22,7 @@ invariant_of-result g c =
           ∣ record {
             fair = record {
               sound = subst (λ (t : Table). Sound (entry t)) (sym c.table-table.ensures) (g.V.Scheme.sound c.args.scheme.now);
-              solved = subst (λ (ch : ℕ → Bool). Solved (entry c.table-table.result) ch c.solve-tableau.result.entries c.solve-tableau.result.basis) (λ i p. sym (same p) i) c.solve-tableau.ensures.solved;
+              solved = subst (λ (ch : ℕ → Bool). Solved (entry c.table-table.result) ch c.solve-tableau.result.rows c.solve-tableau.result.basis) (λ i p. sym (same p) i) c.solve-tableau.ensures.solved;
             };
             ten = subst (λ (n : ℕ). 10 ≤ n) c.count_standing.ensures c.if-count_standing-lt10.false;
             chosen_is = λ p h. same p ∙ c.lowest-chosen.ensures p h;

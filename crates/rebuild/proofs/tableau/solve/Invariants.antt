@@ -1,7 +1,0 @@
-use Rattle.std.proofs.Common.{false, get_or}
-use Rattle.tables.specs.Multipliers.{entry}
-use Rattle.rebuild.proofs.Exchange.{Reached}
-use Rattle.rebuild.proofs.tableau.solve.Given as goal
-
-abbrev pub invariant-loop-q : goal.invariant-loop-q
-invariant-loop-q l = Reached (entry l.table) (λ p. get_or l.chosen p false) l.q l.t l.basis

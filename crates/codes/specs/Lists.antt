@@ -75,5 +75,5 @@ abbrev pub all_without : List ℕ → List Bool
 all_without missing = map (λ u. not (list_any (λ w. w == u) missing)) (upto 1 14)
 
 -- the symbol of a half of fourteen units that are pairs of symbols, by the numbers of its unit and half; another symbol for a number that is no unit
-abbrev pub half_symbol : {S : Type 0} → S → List (S × S) → ℕ × ℕ → S
-half_symbol other units e = cond (is_unit e.0) (cond (e.1 == 1) (slice_index_or units (e.0 - 1) (other, other)).0 (slice_index_or units (e.0 - 1) (other, other)).1) other
+abbrev pub symbol_in : {S : Type 0} → S → List (S × S) → ℕ × ℕ → S
+symbol_in other units e = cond (is_unit e.0) (cond (e.1 == 1) (slice_index_or units (e.0 - 1) (other, other)).0 (slice_index_or units (e.0 - 1) (other, other)).1) other

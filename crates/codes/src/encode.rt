@@ -3,7 +3,7 @@ ghost use Rattle.std.specs.Prelude.{◌≡◌, ◌+◌, ◌-◌, ◌<◌, get_or
 ghost use Rattle.tables.specs.Codewords.{parity};
 ghost use Rattle.tables.specs.Multipliers.{entry};
 ghost use Rattle.codes.specs.Lists.{without};
-ghost use Rattle.codes.specs.Versions.{group, over, share, piggyback, parity_first, parity_second, encoded};
+ghost use Rattle.codes.specs.Versions.{group, over, share, piggyback, parity_first, parity_second, units, encoded};
 
 use crate::encoder::Encoder;
 use crate::refusal::Refusal;
@@ -35,11 +35,19 @@ impl Encoder {
     ) -> Result<(S, S), Refusal>
         ensures { result ≡ encoded S.zero S.sum S.times self.now.version self.now.table a.now b.now u }
     {
-        let k = UnitNumber::try_from(u)?.position();
+        let unit = UnitNumber::try_from(u)?;
+        Ok(self.unit(a, b, unit))
+    }
+
+    // The same of a number that is one of a unit.
+    pub fn unit<S: Symbol + Copy>(&self, a: &[S; 10], b: &[S; 10], unit: UnitNumber) -> (S, S)
+        ensures { result ≡ units S.zero S.sum S.times self.now.version (entry self.now.table) (λ k. slice_index_or a.now k S.zero) (λ k. slice_index_or b.now k S.zero) unit.number }
+    {
+        let k = unit.position();
         if k < 10 {
-            Ok((a[k], b[k]))
+            (a[k], b[k])
         } else {
-            Ok(self.parity_unit(a, b, k - 10))
+            self.parity_unit(a, b, k - 10)
         }
     }
 

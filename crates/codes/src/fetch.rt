@@ -2,7 +2,7 @@
 ghost use Rattle.std.specs.Prelude.{◌≡◌, ℕ, ◌+◌, ◌-◌, ◌<◌, ◌≤◌, false, [], ◌∷◌, ◌++◌, map, length, slice_index_or};
 ghost use Rattle.tables.specs.Codewords.{count};
 ghost use Rattle.tables.specs.Multipliers.{upto};
-ghost use Rattle.codes.specs.Lists.{listed, without, wholes, half as half_of, lowest, home as home_of, short_end, short_list, fetch_list_of as fetch_of, half_symbol, all_without, listed_at, long_list, is_short_for as short_at};
+ghost use Rattle.codes.specs.Lists.{listed, without, wholes, half as half_of, lowest, home as home_of, short_end, short_list, fetch_list_of as fetch_of, symbol_in, all_without, listed_at, long_list, is_short_for as short_at};
 
 use crate::list::FetchList;
 use crate::version::Version;
@@ -19,18 +19,18 @@ impl FetchList {
 
     // The symbols of the listed halves, in order, of fourteen units that are pairs of symbols; `rest` behind them.
     pub fn pick<S: Copy>(&self, units: &[(S, S); 14], rest: S) -> [S; 20]
-        ensures { (i : ℕ) → i < 20 → slice_index_or result i rest ≡ slice_index_or (map (half_symbol rest units.now) (listed self.now)) i rest }
+        ensures { (i : ℕ) → i < 20 → slice_index_or result i rest ≡ slice_index_or (map (symbol_in rest units.now) (listed self.now)) i rest }
     {
         std::array::from_fn(
             |i| -> S
-                ensures { result ≡ slice_index_or (map (half_symbol rest units.entry.now) (listed self.entry.now)) i rest }
+                ensures { result ≡ slice_index_or (map (symbol_in rest units.entry.now) (listed self.entry.now)) i rest }
             { self.symbol_at(units, rest, i) },
         )
     }
 
     // The symbol of listed half i, from 0; `rest` behind the list.
     fn symbol_at<S: Copy>(&self, units: &[(S, S); 14], rest: S, i: usize) -> S
-        ensures { result ≡ slice_index_or (map (half_symbol rest units.now) (listed self.now)) i rest }
+        ensures { result ≡ slice_index_or (map (symbol_in rest units.now) (listed self.now)) i rest }
     {
         match self.halves().get(i) {
             Some((unit, half)) => symbol_of(units, rest, *unit, *half),
@@ -115,7 +115,7 @@ fn short(version: Version, u: usize) -> FetchList
 
 // The symbol of a half of the fourteen units; `other` for a number that is no unit.
 fn symbol_of<S: Copy>(units: &[(S, S); 14], other: S, unit: u8, half: u8) -> S
-    ensures { result ≡ half_symbol other units.now (unit, half) }
+    ensures { result ≡ symbol_in other units.now (unit, half) }
 {
     match UnitNumber::try_from(unit) {
         Ok(unit) => {

@@ -1,10 +1,11 @@
 -- Arrays made element by element, by a closure whose calls leave it as it was.
-use Rattle.std.proofs.Common.{◌≡◌, ℕ, zero, suc, ◌+◌, ◌<◌, ◌≤◌, ◌⊎◌, List, map, length, get_or, sym, ap, subst, ◌∙◌, inl, inr, eq-or-lt_of_le, arith}
+use Rattle.std.proofs.Common.{◌≡◌, ℕ, zero, suc, ◌+◌, ◌-◌, ◌<◌, ◌≤◌, ◌⊎◌, List, [], ◌∷◌, ◌++◌, map, length, get_or, sym, refl, ap, subst, ◌∙◌, length-append, inl, inr, eq-or-lt_of_le, arith}
 use denote.Param.Members.{Mut}
-use Rattle.std.specs.Array.{IsMapOf, MapsFrom, IsFromFnResult, IsFromFnResultFrom}
+use Rattle.std.specs.Array.{list_steps, IsMapOf, MapsFrom, IsFromFnResult, IsFromFnResultFrom}
 use Rattle.std.specs.Fn.{Called}
+use Rattle.std.specs.Iterator.{Yields, CallableAtEachTurn}
 use Rattle.std.specs.List.{range_with_len}
-use Rattle.std.proofs.lemmas.List.{ext_get_or, length-map, get_or-map}
+use Rattle.std.proofs.lemmas.List.{ext_get_or, length-map, get_or-map, get_or-append_right}
 use Rattle.std.proofs.lemmas.List.FromFn.{fill_by_all}
 
 module _ {F B : Type 0} (g : Mut F (ℕ × Unit {0}) B) (f : F) (ys : List B) (h : ℕ → B) (top : ℕ)
@@ -47,3 +48,18 @@ module _ {F A B : Type 0} (g : Mut F (A × Unit {0}) B) (f : F) (xs : List A) (y
   mapped n d e long r =
       ext_get_or e ys (map h xs) (r.long ∙ sym (length-map xs h ∙ long))
       (λ k w. mapped_from n 0 r.each k d e (omega arith) (omega (arith, r.long)) ∙ sym (get_or-map h xs k d e (omega (arith, long, r.long))))
+
+-- what a call asks, where it holds of each element
+module _ {A P : Type 0} (R : P → A → P → Type 0) (Q : P → A → Type 0) (xs : List A) (p : P) where
+  so_far : (ys : List A) (s t : List A) → Yields list_steps s ys t → s ≡ ys ++ t
+  so_far [] s t e = e
+  so_far (y ∷ ys) s t w = w.1 ∙ ap (λ z. y ∷ z) (so_far ys w.0 t w.2)
+
+  pub each_serves : ((q : P) (x : A) (k : ℕ) → k < length xs → get_or xs k x ≡ x → Q q x) → CallableAtEachTurn list_steps R Q xs p
+  each_serves h = record {
+    at = λ ys t q x u w c z.
+        let e : xs ≡ ys ++ (x ∷ u) = so_far ys xs t w ∙ ap (λ l. ys ++ l) z in
+        let first : length ys - length ys ≡ 0 = omega arith in
+        h q x (length ys) (omega (arith, ap length e, length-append ys (x ∷ u)))
+        (ap (λ l. get_or l (length ys) x) e ∙ get_or-append_right ys (x ∷ u) (length ys) (length ys) x refl (omega arith) ∙ ap (λ k. get_or (x ∷ u) k x) first);
+  }

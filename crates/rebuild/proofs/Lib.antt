@@ -1,5 +1,4 @@
 pub mod Gathering
-mod Arrays
 mod Backwards
 mod Rows
 mod Standing

@@ -92,13 +92,6 @@ module _ {S : Type 0} {ok : S → Type 0} {none : S} {sum : S → S → S} {time
             w.is ∙ units_cong v (entry t) w.a w.b a b (λ k l. sym (solves w.a w.b w.oks_a w.oks_b fit k l).0)
             (λ k l. sym (solves w.a w.b w.oks_a w.oks_b fit k l).1) u
 
--- the encoding of a unit
-pub encoded_is : {S : Type 0} (none : S) (sum : S → S → S) (times : ℕ → S → S) (v : Version) (t : Table) (xs ys : List S) (u : ℕ) → 1 ≤ u → u ≤ 14
-    → encoded none sum times v t xs ys u ≡ Ok (units none sum times v (entry t) (λ k. get_or xs k none) (λ k. get_or ys k none) u)
-encoded_is none sum times v t xs ys u l h =
-    ap (λ b. cond b (Ok (units none sum times v (entry t) (λ k. get_or xs k none) (λ k. get_or ys k none) u)) (Err NoUnit))
-    (ap₂ ◌&&◌ (T_true (ltb 0 u) (lt→ltb 0 u l)) (T_true (leb u 14) (le→leb u 14 h)))
-
 -- ten positions are solved
 pub chosen_ten : (v : Version) (stands : ℕ → Bool) (u : ℕ) (short : Bool) → short ≡ is_short_for v stands u → 10 ≤ count 14 stands
     → (f : ℕ → Bool) → ((p : ℕ) → p < 14 → f p ≡ solved_at short stands u p) → count 14 f ≡ 10

@@ -6,7 +6,7 @@ use Rattle.std.specs.Fn.{Called}
 use Rattle.std.proofs.lemmas.List.{get_or_default}
 use Rattle.std.proofs.lemmas.List.FromFn.{length-map-range_with_len, get_or-map-range_with_len, fill_by_all}
 use Rattle.rebuild.specs.Tableaus.{ten}
-use Rattle.rebuild.proofs.Arrays.{made_at}
+use Rattle.field.proofs.Arrays.{made_at}
 
 pub ten_is : (xs : List ℕ) (f : ℕ → ℕ) → length xs ≡ 10 → ((k : ℕ) → k < 10 → get_or xs k 0 ≡ f k) → xs ≡ ten f
 unfolding ten

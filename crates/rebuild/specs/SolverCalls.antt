@@ -10,5 +10,5 @@ use Rattle.rebuild.specs.declared.solver.Solver.{Solver}
 
 -- a solver is of what was asked, and a right one by its type; it is refused where fewer than ten units stand
 abbrev pub Prepares : Version → Table → List Bool → Result Solver Refusal → Type 0
-Prepares v t standing (Ok solver) = (solver.version ≡ v) × (solver.table ≡ t) × (solver.standing ≡ standing)
+Prepares v t standing (Ok solver) = (solver.encoder.version ≡ v) × (solver.encoder.table ≡ t) × (solver.standing ≡ standing)
 Prepares v t standing (Err e) = (e ≡ TooFew) × (nat_lt (count 14 (stands_in standing)) 10 ≡ true)

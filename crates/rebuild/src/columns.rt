@@ -6,10 +6,9 @@ ghost use Rattle.rebuild.specs.Gathered.{first_alone, second_alone};
 ghost use Rattle.rebuild.specs.Tableaus.{at};
 
 use crate::tableau::Tableau;
-use codes::encode::{added, mixed};
+use codes::encoder::Encoder;
 use codes::version::Version;
 use field::symbol::{Symbol, sum_of_products};
-use tables::table::Table;
 
 impl Tableau {
     // The ten data symbols, each as the combination of the chosen positions that its row says.
@@ -47,7 +46,7 @@ pub(crate) fn unmixed<S: Symbol + Copy>(version: Version, x: &[S; 14], y: &[S; 1
             requires { p < 14 }
             ensures { result ≡ first_alone S.sum version (λ q. get_or x.entry.now q S.zero) (λ q. get_or y.entry.now q S.zero) p }
         {
-            if p >= 10 && mixed(version, p as u8 - 10) {
+            if p >= 10 && version.mixed(p - 10) {
                 x[p].sum(y[p])
             } else {
                 x[p]
@@ -57,23 +56,18 @@ pub(crate) fn unmixed<S: Symbol + Copy>(version: Version, x: &[S; 14], y: &[S; 1
 }
 
 // The second symbols as the base code has them: what the first symbols a put there is taken out.
-pub(crate) fn unburdened<S: Symbol + Copy>(
-    version: Version,
-    table: &Table,
-    a: &[S; 10],
-    y: &[S; 14],
-) -> [S; 14]
-    ensures { (p : ℕ) → p < 14 → slice_index_or result p S.zero ≡ second_alone S.zero S.sum S.times version (entry table.now) (λ k. get_or a.now k S.zero) (λ q. get_or y.now q S.zero) p }
+pub(crate) fn unburdened<S: Symbol + Copy>(encoder: &Encoder, a: &[S; 10], y: &[S; 14]) -> [S; 14]
+    ensures { (p : ℕ) → p < 14 → slice_index_or result p S.zero ≡ second_alone S.zero S.sum S.times encoder.now.version (entry encoder.now.table) (λ k. get_or a.now k S.zero) (λ q. get_or y.now q S.zero) p }
 {
     std::array::from_fn(
         |p| -> S
             requires { p < 14 }
-            ensures { result ≡ second_alone S.zero S.sum S.times version (entry table.entry.now) (λ k. get_or a.entry.now k S.zero) (λ q. get_or y.entry.now q S.zero) p }
+            ensures { result ≡ second_alone S.zero S.sum S.times encoder.entry.now.version (entry encoder.entry.now.table) (λ k. get_or a.entry.now k S.zero) (λ q. get_or y.entry.now q S.zero) p }
         {
             if p < 10 {
                 y[p]
             } else {
-                y[p].sum(added(version, table, a, p as u8 - 10))
+                y[p].sum(encoder.added(a, p - 10))
             }
         },
     )

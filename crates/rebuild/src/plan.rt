@@ -2,18 +2,17 @@
 ghost use Rattle.rebuild.specs.Plans.{Planned};
 
 use crate::tableau::Tableau;
+use codes::encoder::Encoder;
 use codes::list::FetchList;
-use codes::version::Version;
-use tables::table::Table;
+use units::number::UnitNumber;
 
 #[derive(Clone, Copy)]
 pub struct Plan {
-    pub(crate) version: Version,
-    pub(crate) table: Table,
+    pub(crate) encoder: Encoder,
     pub(crate) standing: [bool; 14],
-    pub(crate) unit: u8,
+    pub(crate) unit: UnitNumber,
     pub(crate) short: bool,
     pub(crate) list: FetchList,
     pub(crate) tableau: Tableau,
-    ghost planned: { ∥ Planned version table standing unit short list tableau ∥₁ },
+    ghost planned: { ∥ Planned encoder.version encoder.table standing unit.number short list tableau ∥₁ },
 }

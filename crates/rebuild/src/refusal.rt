@@ -1,6 +1,9 @@
 // Why a call of this library is refused.
 ghost use Rattle.std.specs.Prelude.{◌≡◌};
 ghost use Rattle.rebuild.specs.Refusals.{number};
+ghost use Rattle.rebuild.specs.declared.refusal.Refusal.TheVariants.{NoUnit as no_unit};
+
+use units::number::NoUnit;
 
 #[derive(Clone, Copy, PartialEq, Eq, Debug)]
 pub enum Refusal {
@@ -10,6 +13,14 @@ pub enum Refusal {
     TooFew = 5,
     // the unit stands
     Stands = 8,
+}
+
+impl From<NoUnit> for Refusal {
+    ghost from_gives = { λ _ e. e ≡ no_unit };
+
+    fn from(_: NoUnit) -> Refusal {
+        Refusal::NoUnit
+    }
 }
 
 impl Refusal {

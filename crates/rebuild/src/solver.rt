@@ -2,14 +2,12 @@
 ghost use Rattle.rebuild.specs.Solvers.{Prepared};
 
 use crate::tableau::Tableau;
-use codes::version::Version;
-use tables::table::Table;
+use codes::encoder::Encoder;
 
 #[derive(Clone, Copy)]
 pub struct Solver {
-    pub(crate) version: Version,
-    pub(crate) table: Table,
+    pub(crate) encoder: Encoder,
     pub(crate) standing: [bool; 14],
     pub(crate) tableau: Tableau,
-    ghost prepared: { ∥ Prepared table standing tableau ∥₁ },
+    ghost prepared: { ∥ Prepared encoder.table standing tableau ∥₁ },
 }

@@ -23,13 +23,11 @@ impl Solver {
         if count_standing(standing) < 10 {
             return Err(Refusal::TooFew);
         }
-        let version = scheme.version();
-        let table = scheme.table();
+        let encoder = scheme.encoder();
         let chosen = lowest(standing);
-        let tableau = Tableau::solve(&table, &chosen);
+        let tableau = Tableau::solve(&encoder.table, &chosen);
         Ok(Solver {
-            version,
-            table,
+            encoder,
             standing: *standing,
             tableau,
         })
@@ -37,10 +35,10 @@ impl Solver {
 
     // The ten first and ten second symbols of the data that has the symbols x and y in those units; the others are not read.
     pub fn data<S: Symbol + Copy>(&self, x: &[S; 14], y: &[S; 14]) -> ([S; 10], [S; 10])
-        ensures { TheData S.ok S.zero S.sum S.times self.now.version (entry self.now.table) (stands_in self.now.standing) (λ p. slice_index_or x.now p S.zero) (λ p. slice_index_or y.now p S.zero) (λ k. slice_index_or result.0 k S.zero) (λ k. slice_index_or result.1 k S.zero) }
+        ensures { TheData S.ok S.zero S.sum S.times self.now.encoder.version (entry self.now.encoder.table) (stands_in self.now.standing) (λ p. slice_index_or x.now p S.zero) (λ p. slice_index_or y.now p S.zero) (λ k. slice_index_or result.0 k S.zero) (λ k. slice_index_or result.1 k S.zero) }
     {
         all_held(x);
         all_held(y);
-        data_of(self.version, &self.table, &self.tableau, x, y)
+        data_of(&self.encoder, &self.tableau, x, y)
     }
 }

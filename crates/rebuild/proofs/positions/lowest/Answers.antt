@@ -1,6 +1,6 @@
 use Rattle.std.proofs.Common.{false, get_or, rules}
 use Rattle.codes.specs.Lists.{lowest}
-use Rattle.rebuild.proofs.Arrays.{made_at}
+use Rattle.field.proofs.Arrays.{made_at}
 use Rattle.rebuild.proofs.positions.lowest.Goals as goal
 
 pub returns : goal.returns

@@ -11,16 +11,16 @@ pub returns : goal.returns
 returns g c q r =
     let s = g.S.Symbol in
     let plan = c.args.self.now in
-    let R = entry plan.table in
+    let R = entry plan.encoder.table in
     let x = λ (p : ℕ). get_or c.args.x.now p s.zero in
     let y = λ (p : ℕ). get_or c.args.y.now p s.zero in
     let b = λ (k : ℕ). get_or c.column-b.result k s.zero in
     let at = c.data_position-position.ensures.value in
     let ten : length c.column-b.result ≡ 10 = search rules in
-    let second : get_or c.column-b.result c.data_position-position.result c.index-b-position.result ≡ b (plan.unit - 1) =
+    let second : get_or c.column-b.result c.data_position-position.result c.index-b-position.result ≡ b (plan.unit.number - 1) =
     get_or_default c.column-b.result c.data_position-position.result c.index-b-position.result s.zero (omega (arith, c.data_position-position.ensures.bound))
     ∙ ap b at in
-    let first : c.piece.result ≡ piece s.zero s.sum s.times plan.version R x y b (plan.unit - 1) =
-    c.piece.ensures ∙ ap (piece s.zero s.sum s.times plan.version R x y b) at in
+    let first : c.piece.result ≡ piece s.zero s.sum s.times plan.encoder.version R x y b (plan.unit.number - 1) =
+    c.piece.ensures ∙ ap (piece s.zero s.sum s.times plan.encoder.version R x y b) at in
     ∥∥₁_elim plan.planned (Coded-set (coded× g.row.S.coded g.row.S.coded) _ _) (λ 𝓟. only_short g.met.S.Symbol.space 𝓟 x y c.requires b c.column-b.ensures q r)
     ∙ sym (λ i. (first i, second i))

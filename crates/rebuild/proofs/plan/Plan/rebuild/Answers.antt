@@ -14,12 +14,12 @@ returns g c =
     let stands = stands_in plan.standing in
     let xs = c.args.fetched.now in
     let only = c.rebuild_listed.ensures.only in
-    let all : Rebuilds s.ok s.zero s.sum s.times plan.version plan.table stands plan.unit (listed plan.list) xs c.rebuild_listed.result = record {
+    let all : Rebuilds s.ok s.zero s.sum s.times plan.encoder.version plan.encoder.table stands plan.unit.number (listed plan.list) xs c.rebuild_listed.result = record {
       rebuilt = c.rebuild_listed.ensures.rebuilt;
       only = only;
       own = λ a b ha hb e.
           ∥∥₁_elim plan.planned (Coded-set (coded× g.row.S.coded g.row.S.coded) _ _)
           (λ 𝓟. sym (only _ (own_listed 𝓢 𝓟 a b ha hb xs e)));
     } in
-    subst (λ l. Rebuilds s.ok s.zero s.sum s.times plan.version plan.table stands plan.unit l xs c.rebuild_listed.result)
+    subst (λ l. Rebuilds s.ok s.zero s.sum s.times plan.encoder.version plan.encoder.table stands plan.unit.number l xs c.rebuild_listed.result)
     (∥∥₁_elim plan.planned (Coded-set (coded_list (coded× coded_ℕ coded_ℕ)) _ _) (λ 𝓟. 𝓟.list_is)) all

@@ -21,11 +21,11 @@ returns g c =
     let hy = oks_of s.ok s.zero 𝓢.ok_zero c.args.y.now c.all_held-2.ensures in
     record {
       fits = record {
-        firsts = λ p h q. ∥∥₁_elim plan.prepared (set _ _) (λ 𝓠. (solved_fits 𝓢 plan.version 𝓠 x y a b c.data_of.ensures hx hy).firsts p h q);
-        seconds = λ p h q. ∥∥₁_elim plan.prepared (set _ _) (λ 𝓠. (solved_fits 𝓢 plan.version 𝓠 x y a b c.data_of.ensures hx hy).seconds p h q);
+        firsts = λ p h q. ∥∥₁_elim plan.prepared (set _ _) (λ 𝓠. (solved_fits 𝓢 plan.encoder.version 𝓠 x y a b c.data_of.ensures hx hy).firsts p h q);
+        seconds = λ p h q. ∥∥₁_elim plan.prepared (set _ _) (λ 𝓠. (solved_fits 𝓢 plan.encoder.version 𝓠 x y a b c.data_of.ensures hx hy).seconds p h q);
       };
       only = λ d e hd he f k h. (
-        ∥∥₁_elim plan.prepared (set _ _) (λ 𝓠. (solves_lowest 𝓢 plan.version 𝓠 x y a b c.data_of.ensures d e hd he f k h).0),
-        ∥∥₁_elim plan.prepared (set _ _) (λ 𝓠. (solves_lowest 𝓢 plan.version 𝓠 x y a b c.data_of.ensures d e hd he f k h).1),
+        ∥∥₁_elim plan.prepared (set _ _) (λ 𝓠. (solves_lowest 𝓢 plan.encoder.version 𝓠 x y a b c.data_of.ensures d e hd he f k h).0),
+        ∥∥₁_elim plan.prepared (set _ _) (λ 𝓠. (solves_lowest 𝓢 plan.encoder.version 𝓠 x y a b c.data_of.ensures d e hd he f k h).1),
       );
     }

@@ -9,7 +9,7 @@ use Rattle.rebuild.proofs.solver.Solver.new.Goals as goal
 
 pub solve-tableau-requires : goal.solve-tableau-requires
 solve-tableau-requires g c = (
-  subst (λ (t : Table). Sound (entry t)) (sym c.table-table.ensures) (g.V.Scheme.sound c.args.scheme.now),
+  subst (λ (t : Table). Sound (entry t)) (sym (ap (λ e. e.table) c.encoder-encoder.ensures)) (g.V.Scheme.sound c.args.scheme.now),
   lowest_ten (stands_in c.args.standing.now) (subst (λ (n : ℕ). 10 ≤ n) c.count_standing.ensures c.if-count_standing-lt10.false)
       (λ p. get_or c.lowest-chosen.result p false) c.lowest-chosen.ensures,
 )
@@ -21,8 +21,8 @@ invariant_of-result g c =
       prepared =
           ∣ record {
             fair = record {
-              sound = subst (λ (t : Table). Sound (entry t)) (sym c.table-table.ensures) (g.V.Scheme.sound c.args.scheme.now);
-              solved = subst (λ (ch : ℕ → Bool). Solved (entry c.table-table.result) ch c.solve-tableau.result.rows c.solve-tableau.result.basis) (λ i p. sym (same p) i) c.solve-tableau.ensures.solved;
+              sound = subst (λ (t : Table). Sound (entry t)) (sym (ap (λ e. e.table) c.encoder-encoder.ensures)) (g.V.Scheme.sound c.args.scheme.now);
+              solved = subst (λ (ch : ℕ → Bool). Solved (entry c.encoder-encoder.result.table) ch c.solve-tableau.result.rows c.solve-tableau.result.basis) (λ i p. sym (same p) i) c.solve-tableau.ensures.solved;
             };
             ten = subst (λ (n : ℕ). 10 ≤ n) c.count_standing.ensures c.if-count_standing-lt10.false;
             chosen_is = λ p h. same p ∙ c.lowest-chosen.ensures p h;

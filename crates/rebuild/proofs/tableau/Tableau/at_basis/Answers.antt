@@ -1,5 +1,5 @@
 use Rattle.std.proofs.Common.{◌≡◌, ◌<◌, length, sym, rules}
-use Rattle.rebuild.proofs.Arrays.{each_serves}
+use Rattle.field.proofs.Arrays.{each_serves}
 use Rattle.rebuild.proofs.Rows.{in_basis}
 use Rattle.rebuild.proofs.tableau.Tableau.at_basis.Goals as goal
 

@@ -2,7 +2,7 @@ use Rattle.std.proofs.Common.{ℕ, get_or, refl, ◌∙◌, rules}
 use Rattle.field.specs.Space.{dot}
 use Rattle.field.proofs.Dots.{dot_same}
 use Rattle.rebuild.specs.Tableaus.{at}
-use Rattle.rebuild.proofs.Arrays.{made_at}
+use Rattle.field.proofs.Arrays.{made_at}
 use Rattle.rebuild.proofs.tableau.Tableau.column.Goals as goal
 
 pub returns : goal.returns

@@ -1,7 +1,7 @@
 use Rattle.std.proofs.Common.{[], rules}
 use Rattle.tables.specs.Multipliers.{entry}
 use Rattle.rebuild.specs.Tableaus.{ten, start_at}
-use Rattle.rebuild.proofs.Arrays.{made_at}
+use Rattle.field.proofs.Arrays.{made_at}
 use Rattle.rebuild.proofs.tableau.Tableau.start.Goals as goal
 
 pub returns-clause-rows : goal.returns-clause-rows

@@ -3,7 +3,7 @@ use archive::order::{Order, Reply};
 use archive::place::Place;
 use archive::serve::Party;
 use codes::cauchy::Cauchy;
-use codes::scheme::Rs;
+use codes::scheme::{GoesWith, Rs};
 use sets::set::Set;
 use sets::ticket::{AnyTicket, Gathered};
 use stores::area::AreaStore;
@@ -84,7 +84,7 @@ fn ticket_of(reply: Reply) -> Option<AnyTicket> {
 // Ends a ticket at an empty set, where it stops nothing.
 pub fn spend(ticket: AnyTicket) {
     let mut area = [0u8; 28];
-    let mut set = Set::new(Rs(Cauchy::new()), AreaStore::new(&mut area, 1, 1));
+    let mut set = Set::new(Rs.over(Cauchy::new()), AreaStore::new(&mut area, 1, 1));
     let _ = set.give_up(ticket);
     let (_scheme, _store) = set.into_parts();
 }

@@ -4,7 +4,7 @@ use archive::order::{Asked, Line, Told};
 use archive::serve::serve;
 use codes::cauchy::Cauchy;
 use codes::poly::Poly;
-use codes::scheme::{NonXor, Rs, Scheme, Xor, XorPlus};
+use codes::scheme::{GoesWith, NonXor, Rs, Scheme, Xor, XorPlus};
 use codes::version::Version;
 use sets::refusal::Refusal;
 use sets::ticket::AnyTicket;
@@ -106,11 +106,11 @@ fn serve_steps<'s, 'a>(
 ) -> Option<AnyTicket> {
     let mut clerk = Clerk::new(steps, old);
     match kind {
-        Kind::Rs => serve_in_area(Rs(Cauchy::new()), half, &mut clerk, log),
-        Kind::Xor => serve_in_area(Xor(Cauchy::new()), half, &mut clerk, log),
-        Kind::XorPlus => serve_on_shelves(XorPlus(Cauchy::new()), half, &mut clerk, log),
-        Kind::NonXor => serve_in_area(NonXor(Cauchy::new()), half, &mut clerk, log),
-        Kind::NonXorPoly => serve_in_area(NonXor(Poly::new()), half, &mut clerk, log),
+        Kind::Rs => serve_in_area(Rs.over(Cauchy::new()), half, &mut clerk, log),
+        Kind::Xor => serve_in_area(Xor.over(Cauchy::new()), half, &mut clerk, log),
+        Kind::XorPlus => serve_on_shelves(XorPlus.over(Cauchy::new()), half, &mut clerk, log),
+        Kind::NonXor => serve_in_area(NonXor.over(Cauchy::new()), half, &mut clerk, log),
+        Kind::NonXorPoly => serve_in_area(NonXor.over(Poly::new()), half, &mut clerk, log),
     }
     clerk.leave()
 }

@@ -39,8 +39,15 @@ pub trait Scheme {
 }
 
 // A version as a type, which goes with the base codes of type C.
-pub trait GoesWith<C: BaseCode> {
+pub trait GoesWith<C: BaseCode>: Sized {
     ghost version: { Kind };
+
+    // The scheme of this version over a base code.
+    fn over(self, code: C) -> Over<Self, C>
+        ensures { result.code ≡ code }
+    {
+        Over { kind: self, code }
+    }
 
     fn version() -> Version
         ensures { result ≡ version };

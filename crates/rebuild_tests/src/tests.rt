@@ -4,7 +4,7 @@ use codes::encode::encode_unit;
 use codes::fetch::count_standing;
 use codes::poly::Poly;
 use codes::refusal::Refusal;
-use codes::scheme::{NonXor, Rs, Scheme, Xor, XorPlus};
+use codes::scheme::{GoesWith, NonXor, Rs, Scheme, Xor, XorPlus};
 use codes::version::Version;
 use rebuild::plan::Plan;
 use rebuild::refusal::Refusal as PlanRefusal;
@@ -148,31 +148,31 @@ fn rebuilds_all<V: Scheme>(rt: &impl Abort, scheme: &V) -> Result<(), Fail> {
 
 #[test]
 fn rs(rt: HostRuntime) -> Result<(), Fail> {
-    rebuilds_all(&rt, &Rs(Cauchy::new()))?;
-    rebuilds_all(&rt, &Rs(Poly::new()))
+    rebuilds_all(&rt, &Rs.over(Cauchy::new()))?;
+    rebuilds_all(&rt, &Rs.over(Poly::new()))
 }
 
 #[test]
 fn xor(rt: HostRuntime) -> Result<(), Fail> {
-    rebuilds_all(&rt, &Xor(Cauchy::new()))?;
-    rebuilds_all(&rt, &Xor(Poly::new()))
+    rebuilds_all(&rt, &Xor.over(Cauchy::new()))?;
+    rebuilds_all(&rt, &Xor.over(Poly::new()))
 }
 
 #[test]
 fn xor_plus(rt: HostRuntime) -> Result<(), Fail> {
-    rebuilds_all(&rt, &XorPlus(Cauchy::new()))
+    rebuilds_all(&rt, &XorPlus.over(Cauchy::new()))
 }
 
 #[test]
 fn nonxor(rt: HostRuntime) -> Result<(), Fail> {
-    rebuilds_all(&rt, &NonXor(Cauchy::new()))?;
-    rebuilds_all(&rt, &NonXor(Poly::new()))
+    rebuilds_all(&rt, &NonXor.over(Cauchy::new()))?;
+    rebuilds_all(&rt, &NonXor.over(Poly::new()))
 }
 
 // The refusals of a plan, in their order.
 #[test]
 fn refusals(rt: HostRuntime) {
-    let scheme = Xor(Poly::new());
+    let scheme = Xor.over(Poly::new());
     let all = [true; 14];
     let none = [false; 14];
     assert_eq!(rt; refused_with(&scheme, &all, 0), 1);

@@ -2,7 +2,7 @@
 use crate::data::is_unit;
 use codes::cauchy::Cauchy;
 use codes::poly::Poly;
-use codes::scheme::{NonXor, Rs, Scheme, Xor, XorPlus};
+use codes::scheme::{GoesWith, NonXor, Rs, Scheme, Xor, XorPlus};
 use sets::refusal::Refusal;
 use sets::set::Set;
 use std::process::Abort;
@@ -21,13 +21,13 @@ pub(crate) trait Run {
 }
 
 pub(crate) fn everywhere<R: Run>(rt: &impl Abort, run: &R) -> Result<(), Fail> {
-    over_both(rt, run, Rs(Cauchy::new()))?;
-    over_both(rt, run, Rs(Poly::new()))?;
-    over_both(rt, run, Xor(Cauchy::new()))?;
-    over_both(rt, run, Xor(Poly::new()))?;
-    over_both(rt, run, NonXor(Cauchy::new()))?;
-    over_both(rt, run, NonXor(Poly::new()))?;
-    over_both(rt, run, XorPlus(Cauchy::new()))
+    over_both(rt, run, Rs.over(Cauchy::new()))?;
+    over_both(rt, run, Rs.over(Poly::new()))?;
+    over_both(rt, run, Xor.over(Cauchy::new()))?;
+    over_both(rt, run, Xor.over(Poly::new()))?;
+    over_both(rt, run, NonXor.over(Cauchy::new()))?;
+    over_both(rt, run, NonXor.over(Poly::new()))?;
+    over_both(rt, run, XorPlus.over(Cauchy::new()))
 }
 
 // Over an area with the hop length 2, and then over two shelves.

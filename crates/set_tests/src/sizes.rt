@@ -4,7 +4,7 @@ use crate::rebuilt::rebuild;
 use crate::units::is_filling;
 use codes::cauchy::Cauchy;
 use codes::poly::Poly;
-use codes::scheme::{NonXor, Rs, Scheme, Xor, XorPlus};
+use codes::scheme::{GoesWith, NonXor, Rs, Scheme, Xor, XorPlus};
 use sets::refusal::Refusal;
 use sets::set::Set;
 use std::process::Abort;
@@ -72,28 +72,28 @@ fn fills_shelves_to<V: Scheme + Drop>(
 fn figures(rt: HostRuntime) -> Result<(), Fail> {
     fills_to(
         &rt,
-        Xor(Cauchy::new()),
+        Xor.over(Cauchy::new()),
         10,
         &[1, 0],
         [(245, 0), (1, 0), (83, 0), (142, 1)],
     )?;
     fills_to(
         &rt,
-        XorPlus(Cauchy::new()),
+        XorPlus.over(Cauchy::new()),
         10,
         &[1, 0],
         [(245, 0), (1, 0), (83, 0), (142, 0)],
     )?;
     fills_to(
         &rt,
-        NonXor(Poly::new()),
+        NonXor.over(Poly::new()),
         10,
         &[1, 0],
         [(15, 0), (54, 0), (120, 0), (64, 0)],
     )?;
     fills_to(
         &rt,
-        XorPlus(Cauchy::new()),
+        XorPlus.over(Cauchy::new()),
         9,
         &[1, 1],
         [(143, 143), (0, 1), (201, 201), (244, 245)],
@@ -157,13 +157,13 @@ fn rebuilds_largest<V: Scheme + Drop>(rt: &impl Abort, scheme: V, u: u8) -> Resu
 #[test]
 fn halves_of_one_byte(rt: HostRuntime) -> Result<(), Fail> {
     for u in 1..15u8 {
-        rebuilds_one_byte(&rt, Rs(Cauchy::new()), u)?;
-        rebuilds_one_byte(&rt, Rs(Poly::new()), u)?;
-        rebuilds_one_byte(&rt, Xor(Cauchy::new()), u)?;
-        rebuilds_one_byte(&rt, Xor(Poly::new()), u)?;
-        rebuilds_one_byte(&rt, NonXor(Cauchy::new()), u)?;
-        rebuilds_one_byte(&rt, NonXor(Poly::new()), u)?;
-        rebuilds_one_byte(&rt, XorPlus(Cauchy::new()), u)?;
+        rebuilds_one_byte(&rt, Rs.over(Cauchy::new()), u)?;
+        rebuilds_one_byte(&rt, Rs.over(Poly::new()), u)?;
+        rebuilds_one_byte(&rt, Xor.over(Cauchy::new()), u)?;
+        rebuilds_one_byte(&rt, Xor.over(Poly::new()), u)?;
+        rebuilds_one_byte(&rt, NonXor.over(Cauchy::new()), u)?;
+        rebuilds_one_byte(&rt, NonXor.over(Poly::new()), u)?;
+        rebuilds_one_byte(&rt, XorPlus.over(Cauchy::new()), u)?;
     }
     Ok(())
 }
@@ -171,13 +171,13 @@ fn halves_of_one_byte(rt: HostRuntime) -> Result<(), Fail> {
 #[test]
 fn largest_halves(rt: HostRuntime) -> Result<(), Fail> {
     for u in 1..15u8 {
-        rebuilds_largest(&rt, Rs(Cauchy::new()), u)?;
-        rebuilds_largest(&rt, Rs(Poly::new()), u)?;
-        rebuilds_largest(&rt, Xor(Cauchy::new()), u)?;
-        rebuilds_largest(&rt, Xor(Poly::new()), u)?;
-        rebuilds_largest(&rt, NonXor(Cauchy::new()), u)?;
-        rebuilds_largest(&rt, NonXor(Poly::new()), u)?;
-        rebuilds_largest(&rt, XorPlus(Cauchy::new()), u)?;
+        rebuilds_largest(&rt, Rs.over(Cauchy::new()), u)?;
+        rebuilds_largest(&rt, Rs.over(Poly::new()), u)?;
+        rebuilds_largest(&rt, Xor.over(Cauchy::new()), u)?;
+        rebuilds_largest(&rt, Xor.over(Poly::new()), u)?;
+        rebuilds_largest(&rt, NonXor.over(Cauchy::new()), u)?;
+        rebuilds_largest(&rt, NonXor.over(Poly::new()), u)?;
+        rebuilds_largest(&rt, XorPlus.over(Cauchy::new()), u)?;
     }
     Ok(())
 }
@@ -200,7 +200,7 @@ fn calls_without_bytes<V: Scheme, S: UnitStore>(
 #[test]
 fn halves_without_bytes(rt: HostRuntime) -> Result<(), Fail> {
     let mut area = [0u8; 27];
-    let mut set = Set::new(Xor(Cauchy::new()), AreaStore::new(&mut area, 1, 1));
+    let mut set = Set::new(Xor.over(Cauchy::new()), AreaStore::new(&mut area, 1, 1));
     let result = calls_without_bytes(&rt, &mut set);
     let (scheme, store) = set.into_parts();
     result?;

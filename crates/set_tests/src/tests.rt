@@ -6,7 +6,7 @@ use crate::runs::{
 };
 use codes::cauchy::Cauchy;
 use codes::poly::Poly;
-use codes::scheme::{NonXor, Rs, Scheme, Xor, XorPlus};
+use codes::scheme::{GoesWith, NonXor, Rs, Scheme, Xor, XorPlus};
 use sets::refusal::Refusal;
 use sets::set::Set;
 use sets::ticket::AnyTicket;
@@ -192,18 +192,18 @@ fn ten_by_all() -> Listed {
 
 #[test]
 fn listed_halves(rt: HostRuntime) -> Result<(), Fail> {
-    over_both(&rt, &ten_by_all(), Rs(Cauchy::new()))?;
-    over_both(&rt, &ten_by_all(), Rs(Poly::new()))?;
-    over_both(&rt, &two_by_group(), Xor(Cauchy::new()))?;
-    over_both(&rt, &two_by_group(), Xor(Poly::new()))?;
-    over_both(&rt, &two_by_group(), NonXor(Cauchy::new()))?;
-    over_both(&rt, &two_by_group(), NonXor(Poly::new()))?;
-    over_both(&rt, &two_by_group(), XorPlus(Cauchy::new()))?;
-    over_both(&rt, &ten_by_group(), Xor(Cauchy::new()))?;
-    over_both(&rt, &ten_by_group(), Xor(Poly::new()))?;
-    over_both(&rt, &ten_by_parities(), NonXor(Cauchy::new()))?;
-    over_both(&rt, &ten_by_parities(), NonXor(Poly::new()))?;
-    over_both(&rt, &ten_by_parities(), XorPlus(Cauchy::new()))
+    over_both(&rt, &ten_by_all(), Rs.over(Cauchy::new()))?;
+    over_both(&rt, &ten_by_all(), Rs.over(Poly::new()))?;
+    over_both(&rt, &two_by_group(), Xor.over(Cauchy::new()))?;
+    over_both(&rt, &two_by_group(), Xor.over(Poly::new()))?;
+    over_both(&rt, &two_by_group(), NonXor.over(Cauchy::new()))?;
+    over_both(&rt, &two_by_group(), NonXor.over(Poly::new()))?;
+    over_both(&rt, &two_by_group(), XorPlus.over(Cauchy::new()))?;
+    over_both(&rt, &ten_by_group(), Xor.over(Cauchy::new()))?;
+    over_both(&rt, &ten_by_group(), Xor.over(Poly::new()))?;
+    over_both(&rt, &ten_by_parities(), NonXor.over(Cauchy::new()))?;
+    over_both(&rt, &ten_by_parities(), NonXor.over(Poly::new()))?;
+    over_both(&rt, &ten_by_parities(), XorPlus.over(Cauchy::new()))
 }
 
 #[derive(Drop)]
@@ -367,20 +367,20 @@ fn filled_and_declined<V: Scheme, S: UnitStore>(
 #[test]
 fn declined_calls_alter_nothing(rt: HostRuntime) -> Result<(), Fail> {
     assert_eq!(rt;
-        area_behind(&rt, Rs(Poly::new()), true)?,
-        area_behind(&rt, Rs(Poly::new()), false)?
+        area_behind(&rt, Rs.over(Poly::new()), true)?,
+        area_behind(&rt, Rs.over(Poly::new()), false)?
     );
     assert_eq!(rt;
-        area_behind(&rt, Xor(Poly::new()), true)?,
-        area_behind(&rt, Xor(Poly::new()), false)?
+        area_behind(&rt, Xor.over(Poly::new()), true)?,
+        area_behind(&rt, Xor.over(Poly::new()), false)?
     );
     assert_eq!(rt;
-        area_behind(&rt, NonXor(Poly::new()), true)?,
-        area_behind(&rt, NonXor(Poly::new()), false)?
+        area_behind(&rt, NonXor.over(Poly::new()), true)?,
+        area_behind(&rt, NonXor.over(Poly::new()), false)?
     );
     assert_eq!(rt;
-        area_behind(&rt, XorPlus(Cauchy::new()), true)?,
-        area_behind(&rt, XorPlus(Cauchy::new()), false)?
+        area_behind(&rt, XorPlus.over(Cauchy::new()), true)?,
+        area_behind(&rt, XorPlus.over(Cauchy::new()), false)?
     );
     Ok(())
 }

@@ -3,7 +3,7 @@ use crate::data::mixed;
 use crate::rebuilt::{close, gather};
 use codes::cauchy::Cauchy;
 use codes::poly::Poly;
-use codes::scheme::{Rs, Scheme, Xor};
+use codes::scheme::{GoesWith, Rs, Scheme, Xor};
 use sets::refusal::Refusal;
 use sets::set::Set;
 use sets::ticket::AnyTicket;
@@ -28,9 +28,9 @@ fn with_two_sets<E: Exchange>(rt: &impl Abort, exchange: &E) -> Result<(), Fail>
     let mut area = [0u8; 112];
     let mut low = [0u8; 112];
     let mut high = [0u8; 112];
-    let mut one = Set::new(Xor(Cauchy::new()), AreaStore::new(&mut area, 4, 2));
+    let mut one = Set::new(Xor.over(Cauchy::new()), AreaStore::new(&mut area, 4, 2));
     let mut two = Set::new(
-        Rs(Poly::new()),
+        Rs.over(Poly::new()),
         TwoShelf::new(
             AreaStore::new(&mut low, 4, 4),
             AreaStore::new(&mut high, 4, 1),

@@ -7,7 +7,7 @@ use Rattle.field.specs.Arithmetic.{gmul}
 use Rattle.tables.specs.Codewords.{count}
 use Rattle.tables.specs.Multipliers.{entry}
 use Rattle.tables.specs.declared.table.Table.{Table}
-use Rattle.codes.specs.Versions.{is_unit as is_unit_number}
+use Rattle.units.specs.Numbers.{is_unit as is_unit_number}
 use Rattle.codes.specs.declared.version.Version.{Version}
 use Rattle.fillings.specs.Rebuilding.{Rebuilt}
 use Rattle.rebuild.specs.Gathered.{fetched_of, fetched_by}

@@ -9,7 +9,7 @@ mod show;
 
 use codes::cauchy::Cauchy;
 use codes::poly::Poly;
-use codes::scheme::{NonXor, Rs, Xor, XorPlus};
+use codes::scheme::{GoesWith, NonXor, Rs, Xor, XorPlus};
 use figures::figure_count;
 use show::show_scheme;
 use std::io;
@@ -25,11 +25,11 @@ fn main(rt: HostRuntime) -> io::Result<()> {
         "Worked figures that are proved of the definitions: {}.",
         figure_count()
     )?;
-    show_scheme(&rt, "RS CAUCHY", &Rs(Cauchy::new()))?;
-    show_scheme(&rt, "RS POLY", &Rs(Poly::new()))?;
-    show_scheme(&rt, "XOR CAUCHY", &Xor(Cauchy::new()))?;
-    show_scheme(&rt, "XOR POLY", &Xor(Poly::new()))?;
-    show_scheme(&rt, "XOR+ CAUCHY", &XorPlus(Cauchy::new()))?;
-    show_scheme(&rt, "NONXOR CAUCHY", &NonXor(Cauchy::new()))?;
-    show_scheme(&rt, "NONXOR POLY", &NonXor(Poly::new()))
+    show_scheme(&rt, "RS CAUCHY", &Rs.over(Cauchy::new()))?;
+    show_scheme(&rt, "RS POLY", &Rs.over(Poly::new()))?;
+    show_scheme(&rt, "XOR CAUCHY", &Xor.over(Cauchy::new()))?;
+    show_scheme(&rt, "XOR POLY", &Xor.over(Poly::new()))?;
+    show_scheme(&rt, "XOR+ CAUCHY", &XorPlus.over(Cauchy::new()))?;
+    show_scheme(&rt, "NONXOR CAUCHY", &NonXor.over(Cauchy::new()))?;
+    show_scheme(&rt, "NONXOR POLY", &NonXor.over(Poly::new()))
 }

@@ -14,9 +14,9 @@ loop-i-preserved c =
     let hs = c.args.halves.now in
     let plan = c.args.plan.now in
     let list = listed c.args.list.now in
-    let P : ℕ → ℕ × ℕ → Type 0 = λ i r. Only (λ x. x < 256) 0 bit_xor gmul plan.version plan.table (stands_in plan.standing) plan.unit (fetched_by 0 list (column hs i) 1) (fetched_by 0 list (column hs i) 2) r in
+    let P : ℕ → ℕ × ℕ → Type 0 = λ i r. Only (λ x. x < 256) 0 bit_xor gmul plan.encoder.version plan.encoder.table (stands_in plan.standing) plan.unit.number (fetched_by 0 list (column hs i) 1) (fetched_by 0 list (column hs i) 2) r in
     let here : P c.loop-i.i c.rebuild_listed-x.result =
-    subst (λ (xs : List ℕ). Only (λ x. x < 256) 0 bit_xor gmul plan.version plan.table (stands_in plan.standing) plan.unit (fetched_by 0 list xs 1) (fetched_by 0 list xs 2) c.rebuild_listed-x.result)
+    subst (λ (xs : List ℕ). Only (λ x. x < 256) 0 bit_xor gmul plan.encoder.version plan.encoder.table (stands_in plan.standing) plan.unit.number (fetched_by 0 list xs 1) (fetched_by 0 list xs 2) c.rebuild_listed-x.result)
     c.byte_column-fetched.ensures.value c.rebuild_listed-x.ensures.only in (
       λ i q k. ⊎_elim
           (λ (e : i ≡ c.loop-i.i). subst (λ (z : ℕ). get_or (column hs z) k 0 < 256) (sym e) (subst (λ (xs : List ℕ). get_or xs k 0 < 256) c.byte_column-fetched.ensures.value (c.byte_column-fetched.ensures.bytes k)))

@@ -16,8 +16,8 @@ impl<V: Scheme, S: UnitStore> Set<V, S> {
         ensures { view V.Scheme S.UnitStore result ≡ new_set (make V.Scheme scheme) (S.UnitStore.model store).size }
     {
         let mut store = store;
-        for u in 1..15u8 {
-            let _ = store.lose(u);
+        for unit in UnitNumber::all() {
+            let _ = store.lose(unit.number());
         }
         Set {
             scheme,

@@ -18,6 +18,7 @@ use crate::units::encode_bytes;
 use codes::fetch::count_standing;
 use codes::scheme::Scheme;
 use stores::store::UnitStore;
+use units::number::UnitNumber;
 
 impl<V: Scheme, S: UnitStore> Set<V, S> {
     // Gives a data unit new bytes, and answers how many units were put.
@@ -80,8 +81,8 @@ fn put_changes<V: Scheme, S: UnitStore>(
     ensures count { result ≡ puts (stands_answer (S.UnitStore.model store.old)) u }
 {
     let mut put = put_standing(store, u, bytes);
-    for w in 11..15u8 {
-        put += change_parity(scheme, store, w, difference);
+    for unit in UnitNumber::parities() {
+        put += change_parity(scheme, store, unit, difference);
     }
     put
 }
@@ -99,26 +100,29 @@ fn put_standing<S: UnitStore>(store: &mut S, u: u8, bytes: &[u8]) -> u8
     1
 }
 
-// Sums the parity unit w, if it stands, with the unit of the difference, and answers how many were put.
-fn change_parity<V: Scheme, S: UnitStore>(scheme: &V, store: &mut S, w: u8, difference: &[u8]) -> u8
-    requires low { 1 ≤ w }
-    requires high { w ≤ 14 }
+// Sums a parity unit, if it stands, with the unit of the difference, and answers how many were put.
+fn change_parity<V: Scheme, S: UnitStore>(
+    scheme: &V,
+    store: &mut S,
+    unit: UnitNumber,
+    difference: &[u8],
+) -> u8
     requires whole { length difference.now ≡ 20 * (S.UnitStore.model store.old).size }
-    ensures store { S.UnitStore.model store.new ≡ (if stands_answer (S.UnitStore.model store.old) w then with_slot (S.UnitStore.model store.old) w (sum_units ((S.UnitStore.model store.old).unit w) (unit_of (make V.Scheme scheme.now) (S.UnitStore.model store.old).size difference.now w)) else S.UnitStore.model store.old) }
-    ensures count { result ≡ bit (stands_answer (S.UnitStore.model store.old) w) }
+    ensures store { S.UnitStore.model store.new ≡ (if stands_answer (S.UnitStore.model store.old) unit.number then with_slot (S.UnitStore.model store.old) unit.number (sum_units ((S.UnitStore.model store.old).unit unit.number) (unit_of (make V.Scheme scheme.now) (S.UnitStore.model store.old).size difference.now unit.number)) else S.UnitStore.model store.old) }
+    ensures count { result ≡ bit (stands_answer (S.UnitStore.model store.old) unit.number) }
 {
-    if !store.stands(w) {
+    if !store.stands(unit.number()) {
         return 0;
     }
     let h = store.size();
-    let mut unit = [0u8; 1024];
+    let mut old = [0u8; 1024];
     let mut added = [0u8; 1024];
     sum_parity(
         scheme,
         store,
-        w,
+        unit,
         difference,
-        &mut unit[0..2 * h],
+        &mut old[0..2 * h],
         &mut added[0..2 * h],
     );
     1
@@ -128,24 +132,23 @@ fn change_parity<V: Scheme, S: UnitStore>(scheme: &V, store: &mut S, w: u8, diff
 fn sum_parity<V: Scheme, S: UnitStore>(
     scheme: &V,
     store: &mut S,
-    w: u8,
+    unit: UnitNumber,
     difference: &[u8],
-    unit: &mut [u8],
+    old: &mut [u8],
     added: &mut [u8],
 )
-    requires low { 1 ≤ w }
-    requires high { w ≤ 14 }
-    requires stands { stands_answer (S.UnitStore.model store.old) w ≡ true }
+    requires stands { stands_answer (S.UnitStore.model store.old) unit.number ≡ true }
     requires whole { length difference.now ≡ 20 * (S.UnitStore.model store.old).size }
-    requires unit { length unit.old ≡ 2 * (S.UnitStore.model store.old).size }
+    requires old { length old.old ≡ 2 * (S.UnitStore.model store.old).size }
     requires added { length added.old ≡ 2 * (S.UnitStore.model store.old).size }
-    ensures { S.UnitStore.model store.new ≡ with_slot (S.UnitStore.model store.old) w (sum_units ((S.UnitStore.model store.old).unit w) (unit_of (make V.Scheme scheme.now) (S.UnitStore.model store.old).size difference.now w)) }
+    ensures { S.UnitStore.model store.new ≡ with_slot (S.UnitStore.model store.old) unit.number (sum_units ((S.UnitStore.model store.old).unit unit.number) (unit_of (make V.Scheme scheme.now) (S.UnitStore.model store.old).size difference.now unit.number)) }
 {
     let h = store.size();
-    read_standing(store, w, unit);
-    encode_bytes(scheme, difference, h, w, added);
-    xor_into(unit, added);
-    let _ = store.put(w, unit);
+    let w = unit.number();
+    read_standing(store, w, old);
+    encode_bytes(scheme, difference, h, unit, added);
+    xor_into(old, added);
+    let _ = store.put(w, old);
 }
 
 // Sums bytes into a place of the same length.
@@ -153,7 +156,7 @@ fn xor_into(place: &mut [u8], bytes: &[u8])
     requires { length bytes.now ≡ length place.old }
     ensures { place.new ≡ zip2 bit_xor place.old bytes.now }
 {
-    for i in 0..place.len() {
-        place[i] ^= bytes[i];
+    for (i, byte) in place.iter_mut().enumerate() {
+        *byte ^= bytes[i];
     }
 }

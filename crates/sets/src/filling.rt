@@ -10,6 +10,7 @@ use crate::set::Set;
 use crate::units::encode_bytes;
 use codes::scheme::Scheme;
 use stores::store::UnitStore;
+use units::number::UnitNumber;
 
 impl<V: Scheme, S: UnitStore> Set<V, S> {
     // Puts all fourteen units of the data.
@@ -37,8 +38,8 @@ fn put_units<V: Scheme, S: UnitStore>(scheme: &V, store: &mut S, bytes: &[u8], p
     ensures { S.UnitStore.model store.new ≡ filled (make V.Scheme scheme.now) (S.UnitStore.model store.old).size bytes.now }
 {
     let h = store.size();
-    for u in 1..15u8 {
-        encode_bytes(scheme, bytes, h, u, place);
-        let _ = store.put(u, place);
+    for unit in UnitNumber::all() {
+        encode_bytes(scheme, bytes, h, unit, place);
+        let _ = store.put(unit.number(), place);
     }
 }

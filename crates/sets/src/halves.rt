@@ -12,11 +12,12 @@ use stores::store::UnitStore;
 pub(crate) fn standing<S: UnitStore>(store: &S) -> [bool; 14]
     ensures { result ≡ pattern (stands_answer (S.UnitStore.model store.now)) }
 {
-    let mut stands = [false; 14];
-    for p in 0..14usize {
-        stands[p] = store.stands(p as u8 + 1);
-    }
-    stands
+    std::array::from_fn(
+        |p| -> bool
+            requires { p < 14 }
+            ensures { result ≡ stands_answer (S.UnitStore.model store.entry.now) (p + 1) }
+        { store.stands(p as u8 + 1) },
+    )
 }
 
 // Copies a half to the front of a place; zeros where its unit is missing.
@@ -35,11 +36,9 @@ pub(crate) fn fetch_all<S: UnitStore>(store: &S, list: &FetchList, halves: &mut 
     ensures long { length halves.new ≡ 20 }
     ensures fetched { map (take (S.UnitStore.model store.now).size) (take list.now.len halves.new) ≡ map (fetched (S.UnitStore.model store.now)) (listed list.now) }
 {
-    let entries = list.halves();
-    for n in 0..entries.len() {
-        let (unit, half) = entries[n];
+    for (n, (unit, half)) in list.halves().iter().enumerate() {
         let mut place = [0u8; 512];
-        fetch(store, unit, half, &mut place);
+        fetch(store, *unit, *half, &mut place);
         halves[n] = place;
     }
 }

@@ -1,5 +1,5 @@
 // The bytes of a missing unit, from the halves that were fetched by its list.
-ghost use Rattle.std.specs.Prelude.{◌≡◌, ℕ, ◌+◌, ◌*◌, ◌<◌, ◌≤◌, true, map, length, take, bit_xor, slice_index};
+ghost use Rattle.std.specs.Prelude.{◌≡◌, ℕ, ◌+◌, ◌*◌, ◌<◌, ◌≤◌, true, map, length, take, bit_xor, slice_index, slice_index_or, []};
 ghost use Rattle.field.specs.Arithmetic.{gmul};
 ghost use Rattle.codes.specs.Lists.{listed};
 ghost use Rattle.rebuild.specs.Gathered.{fetched_by};
@@ -62,17 +62,11 @@ fn byte_column(halves: &[[u8; 512]; 20], i: usize) -> [u8; 20]
     ensures value { result ≡ column halves.now i }
     ensures bytes { (k : ℕ) → slice_index result k < 256 }
 {
-    let mut bytes = [0u8; 20];
-    for n in 0..20usize {
-        bytes[n] = byte_at(&halves[n], i);
-    }
-    bytes
-}
-
-fn byte_at(half: &[u8], i: usize) -> u8
-    requires { i < length half.now }
-    ensures value { result ≡ slice_index half.now i }
-    ensures byte { result < 256 }
-{
-    half[i]
+    std::array::from_fn(
+        |n| -> u8
+            requires { (n < 20) × (i < 512) }
+            ensures value { result ≡ slice_index (slice_index_or halves.entry.now n []) i }
+            ensures byte { result < 256 }
+        { halves[n][i] },
+    )
 }

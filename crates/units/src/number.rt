@@ -1,5 +1,6 @@
 // The numbers of units.
-ghost use Rattle.std.specs.Prelude.{◌≡◌, ◌-◌, ◌<◌, ◌≤◌};
+ghost use Rattle.std.specs.Prelude.{◌≡◌, ◌+◌, ◌-◌, ◌<◌, ◌≤◌, map};
+ghost use Rattle.std.specs.List.{range_with_len};
 
 // The number of a unit: 1 to 14.
 #[derive(Clone, Copy, PartialEq, Eq, Debug)]
@@ -10,6 +11,38 @@ pub struct UnitNumber {
 }
 
 impl UnitNumber {
+    // All fourteen, in order.
+    pub fn all() -> [UnitNumber; 14]
+        ensures { map (λ u. u.number) result ≡ range_with_len 1 14 }
+    {
+        std::array::from_fn(
+            |p| -> UnitNumber
+                requires { p < 14 }
+                ensures { result.number ≡ p + 1 }
+            {
+                UnitNumber {
+                    number: p as u8 + 1,
+                }
+            },
+        )
+    }
+
+    // The four that hold parity, in order.
+    pub fn parities() -> [UnitNumber; 4]
+        ensures { map (λ u. u.number) result ≡ range_with_len 11 4 }
+    {
+        std::array::from_fn(
+            |l| -> UnitNumber
+                requires { l < 4 }
+                ensures { result.number ≡ l + 11 }
+            {
+                UnitNumber {
+                    number: l as u8 + 11,
+                }
+            },
+        )
+    }
+
     pub fn number(self) -> u8
         ensures { result ≡ self.number }
     {

@@ -1,11 +1,11 @@
-use Rattle.std.proofs.Common.{◌≡◌, ℕ, ◌+◌, ◌-◌, ◌≤◌}
+use Rattle.std.proofs.Common.{◌≡◌, ℕ, ◌+◌, ◌≤◌}
 use Rattle.stores.specs.Calls.{stands_answer}
 use Rattle.sets.specs.Meaning.{make}
 use Rattle.sets.proofs.Parities.{Changing, tally}
 use Rattle.sets.proofs.changing.put_changes.Given as goal
 
-abbrev pub invariant-loop-w : goal.invariant-loop-w
-invariant-loop-w g l =
-    Changing (make g.V.Scheme l.scheme) (g.S.UnitStore.model l.initial.store) l.difference l.w (g.S.UnitStore.model l.store)
-    × (((n : ℕ) → l.w ≡ 11 + n → l.put ≡ l.initial.put + tally (stands_answer (g.S.UnitStore.model l.initial.store)) n)
-    × (l.put ≤ l.w - 10))
+abbrev pub invariant-loop-unit : goal.invariant-loop-unit
+invariant-loop-unit g l =
+    Changing (make g.V.Scheme l.scheme) (g.S.UnitStore.model l.initial.store) l.difference (11 + l.unit-index) (g.S.UnitStore.model l.store)
+    × (((n : ℕ) → l.unit-index ≡ n → l.put ≡ l.initial.put + tally (stands_answer (g.S.UnitStore.model l.initial.store)) n)
+    × (l.put ≤ l.unit-index + 1))

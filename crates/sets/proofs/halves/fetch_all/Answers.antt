@@ -7,7 +7,7 @@ use Rattle.sets.proofs.halves.fetch_all.Goals as goal
 
 within : (g : _) (c : goal.After-fetch g) → c.loop-n.n < 20
 within g c =
-    let same : length c.halves-entries.result.now ≡ length (listed c.args.list.now) = ap length c.halves-entries.ensures in
+    let same : length c.halves-unit-items.result.now ≡ length (listed c.args.list.now) = ap length c.halves-unit-items.ensures in
     let short : length (listed c.args.list.now) ≡ c.args.list.now.len = length-take-le _ _ (omega arith) in
     omega (arith, c.loop-n-test.true)
 
@@ -15,18 +15,18 @@ pub loop-n-preserved : goal.loop-n-preserved
 loop-n-preserved g c =
     let s = g.S.UnitStore.model c.args.store.now in
     let list = listed c.args.list.now in
-    let same : length c.halves-entries.result.now ≡ length list = ap length c.halves-entries.ensures in
+    let same : length c.halves-unit-items.result.now ≡ length list = ap length c.halves-unit-items.ensures in
     let short : length list ≡ c.args.list.now.len = length-take-le _ _ (omega arith) in (
       length-set _ _ _ ∙ c.loop-n.invariant.0,
       fetched_more (fetched s) s.size c.loop-n.n c.loop-n.halves c.fetch.new.place list _ (0, 0) (omega (arith, c.loop-n.invariant.0, c.loop-n-test.true)) (omega (arith, c.loop-n-test.true))
-          (ap (λ l. get_or l c.loop-n.n (0, 0)) c.halves-entries.ensures) c.fetch.ensures c.loop-n.invariant.1,
+          (ap (λ l. get_or l c.loop-n.n (0, 0)) c.halves-unit-items.ensures) c.fetch.ensures c.loop-n.invariant.1,
     )
 
 pub returns : goal.returns
 returns g c =
     let s = g.S.UnitStore.model c.args.store.now in
     let list = listed c.args.list.now in
-    let same : length c.halves-entries.result.now ≡ length list = ap length c.halves-entries.ensures in
+    let same : length c.halves-unit-items.result.now ≡ length list = ap length c.halves-unit-items.ensures in
     let short : length list ≡ c.args.list.now.len = length-take-le _ _ (omega arith) in
     let all : c.loop-n.n ≡ c.args.list.now.len = omega (arith, c.loop-n-test.false, c.loop-n.auto.n-end) in
     record {

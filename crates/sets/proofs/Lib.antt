@@ -1,3 +1,4 @@
+mod Given
 pub mod Writing
 pub mod Columns
 pub mod Uniqueness

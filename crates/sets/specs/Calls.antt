@@ -6,7 +6,8 @@ use Rattle.tables.specs.Codewords.{bit, count}
 use Rattle.codes.specs.Lists.{fetch_list_of}
 use Rattle.codes.specs.declared.version.Version.{Version}
 use Rattle.rebuild.specs.Plans.{stands_in}
-use Rattle.stores.specs.Model.{is_unit}
+use Rattle.units.specs.Numbers.{is_unit}
+pub use Rattle.units.specs.Numbers.{is_data}
 
 -- a ticket is open, or full once the whole list is gathered
 pub data Kind : Type 0 where
@@ -45,9 +46,6 @@ pub record Status : Type 0 where
   pub under : ℕ
   pub list : List (ℕ × ℕ)
   pub count : ℕ
-
-abbrev pub is_data : ℕ → Bool
-is_data u = nat_le 1 u && nat_le u 10
 
 -- which of the units 1 to 14 stand, as a list
 abbrev pub pattern : (ℕ → Bool) → List Bool

@@ -26,9 +26,7 @@ impl<V: Scheme, S: UnitStore> Set<V, S> {
         ensures view { view V.Scheme S.UnitStore self.new ≡ after (view V.Scheme S.UnitStore self.old) (Change u bytes.now) }
         ensures answer { counted result ≡ answer (view V.Scheme S.UnitStore self.old) (Change u bytes.now) }
     {
-        if u == 0 || u > 10 {
-            return Err(Refusal::NoUnit);
-        }
+        let unit = UnitNumber::of_data(u)?;
         let h = self.store.size();
         if bytes.len() != 2 * h {
             return Err(Refusal::WrongLength);
@@ -42,25 +40,30 @@ impl<V: Scheme, S: UnitStore> Set<V, S> {
         }
         let mut room = [0u8; 10240];
         let difference = &mut room[0..20 * h];
-        self.write_difference(&stood, u, bytes, difference);
-        Ok(put_changes(&self.scheme, &mut self.store, u, bytes, difference))
+        self.write_difference(&stood, unit, bytes, difference);
+        Ok(put_changes(&self.scheme, &mut self.store, unit, bytes, difference))
     }
 
-    // The data that is old plus new in unit u, and zero elsewhere.
-    fn write_difference(&self, stood: &[bool; 14], u: u8, bytes: &[u8], difference: &mut [u8])
-        requires low { 1 ≤ u }
-        requires high { u ≤ 10 }
+    // The data that is old plus new in one unit, and zero elsewhere.
+    fn write_difference(
+        &self,
+        stood: &[bool; 14],
+        unit: UnitNumber,
+        bytes: &[u8],
+        difference: &mut [u8],
+    )
+        requires data { unit.number ≤ 10 }
         requires bytes { length bytes.now ≡ 2 * (S.UnitStore.model self.now.store).size }
         requires whole { length difference.old ≡ 20 * (S.UnitStore.model self.now.store).size }
         requires stood { stood.now ≡ pattern (stands_answer (S.UnitStore.model self.now.store)) }
         requires ten { ten_stand (status (view V.Scheme S.UnitStore self.now)) ≡ true }
-        ensures { difference.new ≡ alone (S.UnitStore.model self.now.store).size u (zip2 bit_xor (read_bytes (view V.Scheme S.UnitStore self.now) u) bytes.now) }
+        ensures { difference.new ≡ alone (S.UnitStore.model self.now.store).size unit.number (zip2 bit_xor (read_bytes (view V.Scheme S.UnitStore self.now) unit.number) bytes.now) }
     {
         let h = self.store.size();
-        let from = (u - 1) as usize * (2 * h);
+        let from = unit.position() * (2 * h);
         difference.fill(0);
         let part = &mut difference[from..from + 2 * h];
-        self.read_unit(stood, u, part);
+        self.read_unit(stood, unit, part);
         xor_into(part, bytes);
     }
 }
@@ -69,30 +72,30 @@ impl<V: Scheme, S: UnitStore> Set<V, S> {
 fn put_changes<V: Scheme, S: UnitStore>(
     scheme: &V,
     store: &mut S,
-    u: u8,
+    unit: UnitNumber,
     bytes: &[u8],
     difference: &[u8],
 ) -> u8
-    requires low { 1 ≤ u }
-    requires high { u ≤ 10 }
+    requires data { unit.number ≤ 10 }
     requires bytes { length bytes.now ≡ 2 * (S.UnitStore.model store.old).size }
     requires whole { length difference.now ≡ 20 * (S.UnitStore.model store.old).size }
-    ensures store { S.UnitStore.model store.new ≡ changed_store (make V.Scheme scheme.now) (S.UnitStore.model store.old) u bytes.now difference.now }
-    ensures count { result ≡ puts (stands_answer (S.UnitStore.model store.old)) u }
+    ensures store { S.UnitStore.model store.new ≡ changed_store (make V.Scheme scheme.now) (S.UnitStore.model store.old) unit.number bytes.now difference.now }
+    ensures count { result ≡ puts (stands_answer (S.UnitStore.model store.old)) unit.number }
 {
-    let mut put = put_standing(store, u, bytes);
-    for unit in UnitNumber::parities() {
-        put += change_parity(scheme, store, unit, difference);
+    let mut put = put_standing(store, unit, bytes);
+    for parity in UnitNumber::parities() {
+        put += change_parity(scheme, store, parity, difference);
     }
     put
 }
 
 // Puts a unit if it stands, and answers how many were put.
-fn put_standing<S: UnitStore>(store: &mut S, u: u8, bytes: &[u8]) -> u8
+fn put_standing<S: UnitStore>(store: &mut S, unit: UnitNumber, bytes: &[u8]) -> u8
     requires bytes { length bytes.now ≡ 2 * (S.UnitStore.model store.old).size }
-    ensures store { S.UnitStore.model store.new ≡ (if stands_answer (S.UnitStore.model store.old) u then with_slot (S.UnitStore.model store.old) u (halves (S.UnitStore.model store.old).size bytes.now) else S.UnitStore.model store.old) }
-    ensures count { result ≡ bit (stands_answer (S.UnitStore.model store.old) u) }
+    ensures store { S.UnitStore.model store.new ≡ (if stands_answer (S.UnitStore.model store.old) unit.number then with_slot (S.UnitStore.model store.old) unit.number (halves (S.UnitStore.model store.old).size bytes.now) else S.UnitStore.model store.old) }
+    ensures count { result ≡ bit (stands_answer (S.UnitStore.model store.old) unit.number) }
 {
+    let u = unit.number();
     if !store.stands(u) {
         return 0;
     }

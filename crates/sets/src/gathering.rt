@@ -62,16 +62,15 @@ impl OpenRebuild {
         let h = store.size();
         let mut place = [0u8; 1024];
         let bytes = &mut place[0..2 * h];
-        let unit = self.unit.number();
         rebuild_bytes(
             scheme,
             &self.stood,
-            unit,
+            self.unit,
             &self.list,
             &self.halves,
             h,
             bytes,
         );
-        let _ = store.put(unit, bytes);
+        let _ = store.put(self.unit.number(), bytes);
     }
 }

@@ -14,6 +14,7 @@ use crate::set::Set;
 use codes::fetch::{count_standing, fetch_list};
 use codes::scheme::Scheme;
 use stores::store::UnitStore;
+use units::number::UnitNumber;
 
 impl<V: Scheme, S: UnitStore> Set<V, S> {
     // Writes a data unit into a place of two halves, and answers how many halves were fetched.
@@ -21,29 +22,34 @@ impl<V: Scheme, S: UnitStore> Set<V, S> {
         ensures answer { gave result place.new ≡ answer (view V.Scheme S.UnitStore self.now) (Read u place.old) }
         ensures place { place.new ≡ place_after (answer (view V.Scheme S.UnitStore self.now) (Read u place.old)) place.old }
     {
-        if u == 0 || u > 10 {
-            return Err(Refusal::NoUnit);
-        }
+        let unit = UnitNumber::of_data(u)?;
         if place.len() != 2 * self.store.size() {
             return Err(Refusal::WrongLength);
         }
         let stood = standing(&self.store);
-        if !self.store.stands(u) && count_standing(&stood) < 10 {
+        if !self.can_read(&stood, u) {
             return Err(Refusal::TooFew);
         }
-        Ok(self.read_unit(&stood, u, place))
+        Ok(self.read_unit(&stood, unit, place))
+    }
+
+    // Whether the unit stands, or ten do.
+    fn can_read(&self, stood: &[bool; 14], u: u8) -> bool
+        requires { stood.now ≡ pattern (stands_answer (S.UnitStore.model self.now.store)) }
+        ensures { result ≡ (stands_answer (S.UnitStore.model self.now.store) u || ten_stand (status (view V.Scheme S.UnitStore self.now))) }
+    {
+        self.store.stands(u) || count_standing(stood) >= 10
     }
 
     // The same of a unit that can be read; `stood` says which units stand.
-    pub(crate) fn read_unit(&self, stood: &[bool; 14], u: u8, place: &mut [u8]) -> u8
-        requires low { 1 ≤ u }
-        requires high { u ≤ 14 }
+    pub(crate) fn read_unit(&self, stood: &[bool; 14], unit: UnitNumber, place: &mut [u8]) -> u8
         requires place { length place.old ≡ 2 * (S.UnitStore.model self.now.store).size }
         requires stood { stood.now ≡ pattern (stands_answer (S.UnitStore.model self.now.store)) }
-        requires can { (stands_answer (S.UnitStore.model self.now.store) u || ten_stand (status (view V.Scheme S.UnitStore self.now))) ≡ true }
-        ensures fetched { result ≡ (if stands_answer (S.UnitStore.model self.now.store) u then 2 else length (list_for (status (view V.Scheme S.UnitStore self.now)) u)) }
-        ensures bytes { place.new ≡ read_bytes (view V.Scheme S.UnitStore self.now) u }
+        requires can { (stands_answer (S.UnitStore.model self.now.store) unit.number || ten_stand (status (view V.Scheme S.UnitStore self.now))) ≡ true }
+        ensures fetched { result ≡ (if stands_answer (S.UnitStore.model self.now.store) unit.number then 2 else length (list_for (status (view V.Scheme S.UnitStore self.now)) unit.number)) }
+        ensures bytes { place.new ≡ read_bytes (view V.Scheme S.UnitStore self.now) unit.number }
     {
+        let u = unit.number();
         if self.store.stands(u) {
             read_standing(&self.store, u, place);
             return 2;
@@ -54,7 +60,7 @@ impl<V: Scheme, S: UnitStore> Set<V, S> {
         rebuild_bytes(
             &self.scheme,
             stood,
-            u,
+            unit,
             &list,
             &halves,
             self.store.size(),

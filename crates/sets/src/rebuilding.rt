@@ -10,24 +10,25 @@ ghost use Rattle.sets.specs.Rebuilding.{can_rebuild, column, rebuilt_bytes};
 use codes::list::FetchList;
 use codes::scheme::Scheme;
 use rebuild::plan::Plan;
+use units::number::UnitNumber;
 
-// Writes the bytes of the unit u, its first half of h bytes and then its second, where `stood` says which units stood.
+// Writes the bytes of a unit, its first half of h bytes and then its second, where `stood` says which units stood.
 pub(crate) fn rebuild_bytes<V: Scheme>(
     scheme: &V,
     stood: &[bool; 14],
-    u: u8,
+    unit: UnitNumber,
     list: &FetchList,
     halves: &[[u8; 512]; 20],
     h: usize,
     place: &mut [u8],
 )
-    requires can { can_rebuild stood.now u ≡ true }
+    requires can { can_rebuild stood.now unit.number ≡ true }
     requires room { length halves.now ≡ 20 }
     requires small { h ≤ 512 }
     requires place { length place.old ≡ 2 * h }
-    ensures { place.new ≡ rebuilt_bytes (make V.Scheme scheme.now) h stood.now u (listed list.now) (map (take h) (take list.now.len halves.now)) }
+    ensures { place.new ≡ rebuilt_bytes (make V.Scheme scheme.now) h stood.now unit.number (listed list.now) (map (take h) (take list.now.len halves.now)) }
 {
-    match Plan::new(scheme, stood, u) {
+    match Plan::new(scheme, stood, unit.number()) {
         Ok(plan) => write_rebuilt(&plan, list, halves, h, place),
         Err(_) => unreachable(),
     }

@@ -12,5 +12,5 @@ returns-clause-value c =
     let f : List ℕ → ℕ = λ half. get_or half i 0 in
     ext_get_or 0 c.from_fn.result (column hs i) (made.long ∙ sym (length-map hs f ∙ c.requires.room))
     (λ k q.
-        made_at _ _ _ (λ n. f (get_or hs n [])) 20 (λ n y r h e. search rules) made k 0 (omega (arith, made.long))
-        ∙ sym (get_or-map f hs k [] 0 (omega (arith, made.long, c.requires.room))))
+    made_at _ _ _ (λ n. f (get_or hs n [])) 20 (λ n y r h e. search rules) made k 0 (omega (arith, made.long))
+    ∙ sym (get_or-map f hs k [] 0 (omega (arith, made.long, c.requires.room))))

@@ -1,6 +1,7 @@
 use Rattle.std.proofs.Common.{◌≡◌, map, length, take, sym, ap, ◌∙◌, arith, rules}
 use Rattle.std.proofs.lemmas.List.{length-take-le}
 use Rattle.codes.specs.Lists.{listed}
+use Rattle.stores.specs.Calls.{put_store}
 use Rattle.stores.specs.Model.{halves, with_slot}
 use Rattle.sets.specs.Meaning.{make, gathered_of}
 use Rattle.sets.specs.Rebuilding.{rebuilt_bytes}
@@ -16,13 +17,13 @@ returns g c =
     let u = self.unit.number in
     let long : length (listed self.list) ≡ self.list.len = length-take-le _ _ (omega arith) in
     let all : self.list.len ≡ self.count = sym long ∙ sym c.requires in
-    let unit_is : c.number-unit.result ≡ u = search rules in
-    let is : c.rebuild_bytes.new.place ≡ rebuilt_bytes m n self.stood u (listed self.list) (gathered_of n self) =
+    let unit_is : c.number.result ≡ u = search rules in
+    let place = c.rebuild_bytes.new.place in
+    let is : place ≡ rebuilt_bytes m n self.stood u (listed self.list) (gathered_of n self) =
     c.rebuild_bytes.ensures
-    ∙ ap (λ h. rebuilt_bytes m h self.stood c.number-unit.result (listed self.list) (map (take h) (take self.list.len self.halves))) c.size-h.ensures
-    ∙ ap (λ k. rebuilt_bytes m n self.stood c.number-unit.result (listed self.list) (map (take n) (take k self.halves))) all
-    ∙ ap (λ k. rebuilt_bytes m n self.stood k (listed self.list) (gathered_of n self)) unit_is in
+    ∙ ap (λ h. rebuilt_bytes m h self.stood u (listed self.list) (map (take h) (take self.list.len self.halves))) c.size-h.ensures
+    ∙ ap (λ k. rebuilt_bytes m n self.stood u (listed self.list) (map (take n) (take k self.halves))) all in
     c.put.ensures.store
-    ∙ put_is s c.number-unit.result c.rebuild_bytes.new.place (unit_true c.number-unit.result (omega (arith, unit_is)) (omega (arith, unit_is))) (omega (arith, c.rebuild_bytes.auto.place, c.size-h.ensures))
-    ∙ ap (λ k. with_slot s k (halves n c.rebuild_bytes.new.place)) unit_is
+    ∙ ap (λ k. put_store s k place) unit_is
+    ∙ put_is s u place (unit_true u self.unit.low self.unit.high) (omega (arith, c.rebuild_bytes.auto.place, c.size-h.ensures))
     ∙ ap (λ xs. with_slot s u (halves n xs)) is

@@ -15,11 +15,11 @@ use Rattle.sets.proofs.set.Set.read_unit.Goals as goal
 pub rebuild_bytes-requires : goal.rebuild_bytes-requires
 rebuild_bytes-requires g c =
     let s = g.S.UnitStore.model c.args.self.now.store in
-    let u = c.args.u in
+    let u = c.args.unit.number in
     let f = stands_answer s in
     let small = (g.S.UnitStore.sound c.args.self.now.store).small in
     record {
-      can = subst (λ (st : List Bool). can_rebuild st u ≡ true) (sym c.requires.stood) (missing_can f u c.requires.low c.requires.high (unit_true u c.requires.low c.requires.high) (sym c.stands.ensures ∙ c.if-stands.false) c.requires.can);
+      can = subst (λ (st : List Bool). can_rebuild st u ≡ true) (sym c.requires.stood) (missing_can f u c.args.unit.low c.args.unit.high (unit_true u c.args.unit.low c.args.unit.high) (ap f (sym c.number-u.ensures) ∙ sym c.stands.ensures ∙ c.if-stands.false) c.requires.can);
       room = c.fetch_all.ensures.long;
       small = omega (arith, small, c.size.ensures);
       place = omega (arith, c.requires.place, c.size.ensures);
@@ -35,10 +35,11 @@ pub returns : goal.returns
 returns g c =
     let v = view g.V.Scheme g.S.UnitStore c.args.self.now in
     let s = v.store in
-    let u = c.args.u in
-    let out : stands_answer s u ≡ false = sym c.stands.ensures ∙ c.if-stands.false in
+    let u = c.args.unit.number in
+    let out : stands_answer s u ≡ false = ap (stands_answer s) (sym c.number-u.ensures) ∙ sym c.stands.ensures ∙ c.if-stands.false in
     let list : listed c.fetch_list-list.result ≡ list_for (status v) u =
-    c.fetch_list-list.ensures ∙ ap₂ (λ k (st : List Bool). fetch_list_of k (stands_in st) u) c.version.ensures c.requires.stood in
+    c.fetch_list-list.ensures ∙ ap₂ (λ k (st : List Bool). fetch_list_of k (stands_in st) c.number-u.result) c.version.ensures c.requires.stood
+    ∙ ap (list_for (status v)) c.number-u.ensures in
     record {
       fetched = ap length (c.halves.ensures ∙ list) ∙ sym (cond-false (stands_answer s u) _ _ out);
       bytes = c.rebuild_bytes.ensures ∙ read_missing v u _ _ _ _ out c.size.ensures c.requires.stood list

@@ -1,7 +1,7 @@
 // A place for a read, held by value.
 ghost use Rattle.std.specs.Prelude.{◌≤◌};
 
-// Up to 1,024 bytes, the size of the largest unit.
+// Up to 1,024 bytes, the size of the largest unit, in fixed memory since no call allocates.
 #[derive(Clone, Copy)]
 pub struct Place {
     pub(crate) bytes: [u8; 1024],

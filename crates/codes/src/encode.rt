@@ -88,6 +88,7 @@ impl Encoder {
     pub fn added_without<S: Symbol + Copy>(&self, a: &[S], l: usize, u: usize) -> S
         ensures { result ≡ over S.zero S.sum (without u (group self.now.version l)) (λ j. share S.zero S.sum S.times self.now.version (entry self.now.table) j (slice_index_or a.now j S.zero)) }
     {
+        // the positions of the group, summed from the last on; of the reversed range itself a proof would know no position
         let Range { start, end } = self.version.group(l);
         let mut total = S::zero();
         for j in (start..end).rev() {

@@ -1,16 +1,14 @@
 -- That nothing but what is computed is rebuilt.
-use Rattle.std.proofs.Common.{◌≡◌, ℕ, ◌-◌, ◌<◌, ◌≤◌, Bool, true, false, cond, not, ◌&&◌, T, ltb, leb, List, length, get_or, Ok, Err, sym, refl, ap, ◌∙◌, subst, ap₂, le→leb, eqb→eq, ltb→lt, lt→ltb, nltb→le}
+use Rattle.std.proofs.Common.{◌≡◌, ℕ, ◌-◌, ◌<◌, ◌≤◌, Bool, true, false, cond, not, T, ltb, List, length, get_or, sym, refl, ap, ◌∙◌, subst, ap₂, eqb→eq, ltb→lt, nltb→le}
 use Rattle.std.proofs.lemmas.List.{get_or_past}
 use Rattle.field.specs.Space.{Space, dot}
 use Rattle.field.proofs.Dots.{dot_same}
 use Rattle.tables.specs.Codewords.{count, parity}
 use Rattle.tables.specs.Multipliers.{entry}
 use Rattle.tables.specs.declared.table.Table.{Table}
-use Rattle.tables.proofs.Tests.{T_true}
 use Rattle.codes.specs.Lists.{is_short_for, lowest}
-use Rattle.codes.specs.Versions.{units, first, second, parity_first, parity_second, mixed, group, share, encoded}
+use Rattle.codes.specs.Versions.{units, first, second, parity_first, parity_second, mixed, group, share}
 use Rattle.codes.specs.declared.list.FetchList.{FetchList}
-use Rattle.codes.specs.declared.refusal.Refusal.TheVariants.{NoUnit}
 use Rattle.codes.specs.declared.version.Version.{Version}
 use Rattle.fillings.specs.Columns.{Oks}
 use Rattle.fillings.specs.Fillings.{Fit}

@@ -3,6 +3,7 @@ ghost use Rattle.std.specs.Prelude.{◌≡◌, ℕ, ◌+◌, ◌<◌, length, if
 ghost use Rattle.rebuild.specs.Gathered.{fetched_by};
 
 use field::symbol::Symbol;
+use units::number::UnitNumber;
 
 // The symbols fetched for one half of the fourteen units, zero where none was. Of two for one unit the first counts, so it is written last.
 pub(crate) fn by_position<S: Symbol + Copy>(list: &[(u8, u8)], fetched: &[S], half: u8) -> [S; 14]
@@ -22,8 +23,8 @@ fn place<S: Symbol + Copy>(symbols: &mut [S; 14], unit: u8, symbol: S)
     ensures long { length symbols.new ≡ 14 }
     ensures placed { (p : ℕ) → p < 14 → slice_index_or symbols.new p S.zero ≡ (if nat_eq unit (p + 1) then symbol else slice_index_or symbols.old p S.zero) }
 {
-    if (1..=14).contains(&unit) {
-        symbols[unit as usize - 1] = symbol;
+    if let Ok(unit) = UnitNumber::try_from(unit) {
+        symbols[unit.position()] = symbol;
     }
 }
 

@@ -75,7 +75,8 @@ impl Plan {
         self.unit_from(&x, &y)
     }
 
-    // The unit from the fetched symbols by position.
+    // The unit from the fetched symbols by position: the first, x, and the second, y. They stay two parameters, since a generic
+    // struct holds no array of a type parameter.
     fn unit_from<S: Symbol + Copy>(&self, x: &[S; 14], y: &[S; 14]) -> (S, S)
         ensures { Only S.ok S.zero S.sum S.times self.now.encoder.version self.now.encoder.table (stands_in self.now.standing) self.now.unit.number (λ p. slice_index_or x.now p S.zero) (λ p. slice_index_or y.now p S.zero) result }
     {

@@ -2,8 +2,8 @@
 use Rattle.std.proofs.Common.{◌≡◌, ℕ, ◌*◌, true, cond, ◌||◌, eqb, List, length}
 use Rattle.units.specs.Numbers.{is_data}
 use Rattle.stores.specs.Calls.{stands_answer}
-use Rattle.sets.specs.Calls.{list_for, ten_stand, unless, puts}
-use Rattle.sets.specs.Calls.Answer.{Gave, Number, Declined}
+use Rattle.sets.specs.Calls.{list_for, ten_stand, unless}
+use Rattle.sets.specs.Calls.Answer.{Gave, Declined}
 use Rattle.sets.specs.Calls.Call.{Read, Change}
 use Rattle.sets.specs.Sets.{View, status, answer, after, read_bytes, with_store, changed}
 

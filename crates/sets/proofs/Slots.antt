@@ -1,11 +1,9 @@
 -- The units of a store, put or lost one after the other.
-use Rattle.std.proofs.Common.{◌≡◌, ℕ, ◌+◌, ◌*◌, ◌<◌, ◌≤◌, true, false, cond, eqb, leb, List, [], ◌++◌, length, replicate, sym, refl, ap, ◌∙◌, ⊎_elim, arith}
+use Rattle.std.proofs.Common.{◌≡◌, ℕ, ◌+◌, ◌*◌, ◌<◌, ◌≤◌, true, cond, eqb, leb, List, ◌++◌, length, sym, refl, ap, ◌∙◌, ⊎_elim, arith}
 use Rattle.std.proofs.lemmas.List.{take_at, drop_at}
 use Rattle.std.proofs.lemmas.Bool.{false≢true, cases_eq, cases_Bool, eq-eqb, ne_eqb, cond-true, cond-false, cond_both, and_parts, leb-true, le-leb, and_from}
 use Rattle.stores.specs.Calls.{lose_store, put_store}
 use Rattle.stores.specs.Model.{Store, Slot, missing, holds, is_unit, with_slot, halves, half_of, standing, SlotOk, Sound}
-use Rattle.sets.specs.Fillings.{Make}
-use Rattle.sets.specs.Sets.{View, idle}
 
 pub unit_true : (u : ℕ) → 1 ≤ u → u ≤ 14 → is_unit u ≡ true
 unit_true u a b = and_from (leb 1 u) (leb u 14) (le-leb 1 u a) (le-leb u 14 b)

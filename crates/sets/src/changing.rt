@@ -10,11 +10,11 @@ ghost use Rattle.sets.specs.Fillings.{unit_of};
 ghost use Rattle.sets.specs.Meaning.{make, view, counted};
 ghost use Rattle.sets.specs.Sets.{answer, after, read_bytes, alone, sum_units, changed_store, status};
 
+use crate::data::Data;
 use crate::halves::standing;
 use crate::reading::read_standing;
 use crate::refusal::Refusal;
 use crate::set::Set;
-use crate::units::encode_bytes;
 use codes::fetch::count_standing;
 use codes::scheme::Scheme;
 use stores::store::UnitStore;
@@ -41,7 +41,11 @@ impl<V: Scheme, S: UnitStore> Set<V, S> {
         let mut room = [0u8; 10240];
         let difference = &mut room[0..20 * h];
         self.write_difference(&stood, unit, bytes, difference);
-        Ok(put_changes(&self.scheme, &mut self.store, unit, bytes, difference))
+        let difference = Data {
+            bytes: difference,
+            size: h,
+        };
+        Ok(put_changes(&self.scheme, &mut self.store, unit, bytes, &difference))
     }
 
     // The data that is old plus new in one unit, and zero elsewhere.
@@ -74,12 +78,12 @@ fn put_changes<V: Scheme, S: UnitStore>(
     store: &mut S,
     unit: UnitNumber,
     bytes: &[u8],
-    difference: &[u8],
+    difference: &Data,
 ) -> u8
     requires data { unit.number ≤ 10 }
     requires bytes { length bytes.now ≡ 2 * (S.UnitStore.model store.old).size }
-    requires whole { length difference.now ≡ 20 * (S.UnitStore.model store.old).size }
-    ensures store { S.UnitStore.model store.new ≡ changed_store (make V.Scheme scheme.now) (S.UnitStore.model store.old) unit.number bytes.now difference.now }
+    requires size { difference.now.size ≡ (S.UnitStore.model store.old).size }
+    ensures store { S.UnitStore.model store.new ≡ changed_store (make V.Scheme scheme.now) (S.UnitStore.model store.old) unit.number bytes.now difference.now.bytes.now }
     ensures count { result ≡ puts (stands_answer (S.UnitStore.model store.old)) unit.number }
 {
     let mut put = put_standing(store, unit, bytes);
@@ -108,10 +112,10 @@ fn change_parity<V: Scheme, S: UnitStore>(
     scheme: &V,
     store: &mut S,
     unit: UnitNumber,
-    difference: &[u8],
+    difference: &Data,
 ) -> u8
-    requires whole { length difference.now ≡ 20 * (S.UnitStore.model store.old).size }
-    ensures store { S.UnitStore.model store.new ≡ (if stands_answer (S.UnitStore.model store.old) unit.number then with_slot (S.UnitStore.model store.old) unit.number (sum_units ((S.UnitStore.model store.old).unit unit.number) (unit_of (make V.Scheme scheme.now) (S.UnitStore.model store.old).size difference.now unit.number)) else S.UnitStore.model store.old) }
+    requires size { difference.now.size ≡ (S.UnitStore.model store.old).size }
+    ensures store { S.UnitStore.model store.new ≡ (if stands_answer (S.UnitStore.model store.old) unit.number then with_slot (S.UnitStore.model store.old) unit.number (sum_units ((S.UnitStore.model store.old).unit unit.number) (unit_of (make V.Scheme scheme.now) (S.UnitStore.model store.old).size difference.now.bytes.now unit.number)) else S.UnitStore.model store.old) }
     ensures count { result ≡ bit (stands_answer (S.UnitStore.model store.old) unit.number) }
 {
     if !store.stands(unit.number()) {
@@ -136,20 +140,19 @@ fn sum_parity<V: Scheme, S: UnitStore>(
     scheme: &V,
     store: &mut S,
     unit: UnitNumber,
-    difference: &[u8],
+    difference: &Data,
     old: &mut [u8],
     added: &mut [u8],
 )
     requires stands { stands_answer (S.UnitStore.model store.old) unit.number ≡ true }
-    requires whole { length difference.now ≡ 20 * (S.UnitStore.model store.old).size }
+    requires size { difference.now.size ≡ (S.UnitStore.model store.old).size }
     requires old { length old.old ≡ 2 * (S.UnitStore.model store.old).size }
     requires added { length added.old ≡ 2 * (S.UnitStore.model store.old).size }
-    ensures { S.UnitStore.model store.new ≡ with_slot (S.UnitStore.model store.old) unit.number (sum_units ((S.UnitStore.model store.old).unit unit.number) (unit_of (make V.Scheme scheme.now) (S.UnitStore.model store.old).size difference.now unit.number)) }
+    ensures { S.UnitStore.model store.new ≡ with_slot (S.UnitStore.model store.old) unit.number (sum_units ((S.UnitStore.model store.old).unit unit.number) (unit_of (make V.Scheme scheme.now) (S.UnitStore.model store.old).size difference.now.bytes.now unit.number)) }
 {
-    let h = store.size();
     let w = unit.number();
     read_standing(store, w, old);
-    encode_bytes(scheme, difference, h, unit, added);
+    difference.write_unit(scheme, unit, added);
     xor_into(old, added);
     let _ = store.put(w, old);
 }

@@ -5,9 +5,9 @@ ghost use Rattle.sets.specs.Fillings.{filled};
 ghost use Rattle.sets.specs.Meaning.{make, view, done};
 ghost use Rattle.sets.specs.Sets.{answer, after};
 
+use crate::data::Data;
 use crate::refusal::Refusal;
 use crate::set::Set;
-use crate::units::encode_bytes;
 use codes::scheme::Scheme;
 use stores::store::UnitStore;
 use units::number::UnitNumber;
@@ -26,20 +26,20 @@ impl<V: Scheme, S: UnitStore> Set<V, S> {
             return Err(Refusal::RebuildOpen);
         }
         let mut place = [0u8; 1024];
-        put_units(&self.scheme, &mut self.store, bytes, &mut place[0..2 * h]);
+        let data = Data { bytes, size: h };
+        put_units(&self.scheme, &mut self.store, &data, &mut place[0..2 * h]);
         Ok(())
     }
 }
 
 // Puts each unit by way of a place of its size.
-fn put_units<V: Scheme, S: UnitStore>(scheme: &V, store: &mut S, bytes: &[u8], place: &mut [u8])
-    requires whole { length bytes.now ≡ 20 * (S.UnitStore.model store.old).size }
+fn put_units<V: Scheme, S: UnitStore>(scheme: &V, store: &mut S, data: &Data, place: &mut [u8])
+    requires size { data.now.size ≡ (S.UnitStore.model store.old).size }
     requires place { length place.old ≡ 2 * (S.UnitStore.model store.old).size }
-    ensures { S.UnitStore.model store.new ≡ filled (make V.Scheme scheme.now) (S.UnitStore.model store.old).size bytes.now }
+    ensures { S.UnitStore.model store.new ≡ filled (make V.Scheme scheme.now) (S.UnitStore.model store.old).size data.now.bytes.now }
 {
-    let h = store.size();
     for unit in UnitNumber::all() {
-        encode_bytes(scheme, bytes, h, unit, place);
+        data.write_unit(scheme, unit, place);
         let _ = store.put(unit.number(), place);
     }
 }

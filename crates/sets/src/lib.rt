@@ -4,6 +4,7 @@
 
 pub mod calls;
 pub mod changing;
+mod data;
 pub mod filling;
 mod gathering;
 mod halves;

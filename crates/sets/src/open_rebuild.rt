@@ -12,7 +12,7 @@ pub(crate) struct OpenRebuild {
     // which units stood when it was opened, and its list
     pub(crate) stood: [bool; 14],
     pub(crate) list: FetchList,
-    // the halves gathered: `count` of them
+    // the halves gathered: the first `count` of them, in fixed memory since no call allocates
     pub(crate) halves: [[u8; 512]; 20],
     pub(crate) count: u8,
     ghost within: { count ≤ list.len },

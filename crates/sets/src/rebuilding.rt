@@ -48,6 +48,7 @@ fn write_rebuilt(
     ensures bytes { (i : ℕ) → i < h → (k : ℕ) → slice_index (column halves.now i) k < 256 }
     ensures only { (i : ℕ) → i < h → Only (λ x. x < 256) 0 bit_xor gmul plan.now.encoder.version plan.now.encoder.table (stands_in plan.now.standing) plan.now.unit.number (fetched_by 0 (listed list.now) (column halves.now i) 1) (fetched_by 0 (listed list.now) (column halves.now i) 2) (slice_index place.new i, slice_index place.new (h + i)) }
 {
+    // two places are written at each position, as in `Data::write_unit`
     for i in 0..h {
         let fetched = byte_column(halves, i);
         let (x, y) = plan.rebuild_listed(list, &fetched);

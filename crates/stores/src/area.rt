@@ -84,6 +84,7 @@ impl<'a> UnitStore for AreaStore<'a> {
         self.size
     }
 
+    // a `match`: the closure of `is_ok_and` gets no proof
     fn stands(&self, unit: u8) -> bool {
         match UnitNumber::try_from(unit) {
             Ok(unit) => self.present[unit.position()],

@@ -1,4 +1,4 @@
-use Rattle.std.proofs.Common.{ℕ, get_or, ◌≡◌, ◌+◌, ◌*◌, ◌≤◌, sym, ap, ◌∙◌, subst, arith}
+use Rattle.std.proofs.Common.{ℕ, get_or, ◌≡◌, ◌+◌, ◌≤◌, sym, ap, ◌∙◌, subst, arith}
 use Rattle.tables.specs.Codewords.{bit}
 use Rattle.stores.specs.Calls.{stands_answer}
 use Rattle.stores.specs.Model.{Store}
@@ -20,7 +20,7 @@ loop-parity-init g c = (
 
 pub change_parity-put-requires : goal.change_parity-put-requires
 change_parity-put-requires g c = record {
-  whole = c.requires.whole ∙ ap (λ n. 20 * n) (sym (c.loop-parity.invariant.0.size ∙ ap (λ (z : Store). z.size) c.put_standing-put.ensures.store ∙ own_size (make g.V.Scheme c.args.scheme.now) (g.S.UnitStore.model c.args.store.now) c.args.unit.number c.args.unit.low c.requires.data c.args.bytes.now c.args.difference.now));
+  size = c.requires.size ∙ (sym (c.loop-parity.invariant.0.size ∙ ap (λ (z : Store). z.size) c.put_standing-put.ensures.store ∙ own_size (make g.V.Scheme c.args.scheme.now) (g.S.UnitStore.model c.args.store.now) c.args.unit.number c.args.unit.low c.requires.data c.args.bytes.now c.args.difference.now.bytes.now));
 }
 
 pub loop-parity-preserved : goal.loop-parity-preserved
@@ -34,8 +34,8 @@ loop-parity-preserved g c =
     let low : 11 ≤ w = omega (arith, at) in
     let next : w + 1 ≡ 11 + (n + 1) = omega (arith, at) in
     let same : stands_answer t w ≡ stands_answer s w = same_stands s t w (c.loop-parity.invariant.0.above w (omega arith)) in (
-      subst (λ (k : ℕ). Changing m s c.args.difference.now k (g.S.UnitStore.model c.change_parity-put.new.store)) next
-          (change_more m s c.args.difference.now w low t (subst (λ (k : ℕ). Changing m s c.args.difference.now k t) (sym at) c.loop-parity.invariant.0) _ c.change_parity-put.ensures.store),
+      subst (λ (k : ℕ). Changing m s c.args.difference.now.bytes.now k (g.S.UnitStore.model c.change_parity-put.new.store)) next
+          (change_more m s c.args.difference.now.bytes.now w low t (subst (λ (k : ℕ). Changing m s c.args.difference.now.bytes.now k t) (sym at) c.loop-parity.invariant.0) _ c.change_parity-put.ensures.store),
       (
         λ k e. tally_more (stands_answer s) w _ _ _ low (c.change_parity-put.ensures.count ∙ ap bit same) (λ j f. c.loop-parity.invariant.1.0 j (omega (arith, at, f))) k (omega (arith, at, e)),
         omega (arith, c.loop-parity.invariant.1.1, c.change_parity-put.ensures.count, bit_small (stands_answer t w)),
@@ -48,7 +48,7 @@ returns g c =
     let s = g.S.UnitStore.model c.args.store.now in
     let u = c.args.unit.number in
     let new = c.args.bytes.now in
-    let d = c.args.difference.now in
+    let d = c.args.difference.now.bytes.now in
     let own : g.S.UnitStore.model c.put_standing-put.new.store ≡ put_own s u new = c.put_standing-put.ensures.store in
     let all : Changing m (put_own s u new) d (11 + c.loop-parity.parity-index) (g.S.UnitStore.model c.loop-parity.store) =
     subst (λ (z : Store). Changing m z d (11 + c.loop-parity.parity-index) (g.S.UnitStore.model c.loop-parity.store)) own c.loop-parity.invariant.0 in

@@ -1,4 +1,4 @@
-use Rattle.std.proofs.Common.{ℕ, List, [], length, get_or, sym, ◌∙◌, arith, rules}
+use Rattle.std.proofs.Common.{ℕ, List, [], get_or, sym, ◌∙◌, arith, rules}
 use Rattle.std.proofs.lemmas.List.{ext_get_or, length-map, get_or-map}
 use Rattle.field.proofs.Arrays.{made_at}
 use Rattle.sets.specs.Rebuilding.{column}

@@ -1,4 +1,4 @@
-use Rattle.std.proofs.Common.{◌≡◌, min, replicate, ap, ◌∙◌, arith}
+use Rattle.std.proofs.Common.{replicate, ap, ◌∙◌, arith}
 use Rattle.std.proofs.lemmas.List.{take-replicate}
 use Rattle.archive.proofs.place.Place.new.Goals as goal
 

@@ -1,4 +1,4 @@
-use Rattle.std.proofs.Common.{◌≡◌, ℕ, ◌-◌, ◌≤◌, Bool, false, get_or, sym, ap, ◌∙◌, subst, arith, rules}
+use Rattle.std.proofs.Common.{◌≡◌, ℕ, ◌≤◌, Bool, false, get_or, sym, ap, ◌∙◌, subst, rules}
 use Rattle.tables.specs.Codewords.{Sound}
 use Rattle.tables.specs.Multipliers.{entry}
 use Rattle.tables.specs.declared.table.Table.{Table}

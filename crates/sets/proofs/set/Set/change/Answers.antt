@@ -7,7 +7,7 @@ use Rattle.units.specs.Numbers.{is_data}
 use Rattle.stores.specs.Model.{Store}
 use Rattle.sets.specs.Calls.{pattern, ten_stand}
 use Rattle.sets.specs.Meaning.{view, gathered_in}
-use Rattle.sets.specs.Sets.{View, status, changed, changed_store}
+use Rattle.sets.specs.Sets.{status, changed, changed_store}
 use Rattle.sets.proofs.Given.{change_given}
 use Rattle.sets.proofs.set.Set.change.Goals as goal
 

@@ -1,6 +1,6 @@
-use Rattle.std.proofs.Common.{get_or, ◌≡◌, ℕ, ◌+◌, ◌<◌, true, sym, refl, ap, ◌∙◌, arith, rules}
+use Rattle.std.proofs.Common.{get_or, ◌≡◌, ◌+◌, refl, ap, ◌∙◌, arith, rules}
 use Rattle.stores.specs.Calls.{lose_store}
-use Rattle.stores.specs.Model.{Store, missing, is_unit}
+use Rattle.stores.specs.Model.{Store, missing}
 use Rattle.sets.specs.Meaning.{make}
 use Rattle.sets.specs.Sets.{idle}
 use Rattle.sets.proofs.Slots.{slot_more, lost_is, unit_true, empty_is}

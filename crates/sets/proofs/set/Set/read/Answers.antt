@@ -1,12 +1,11 @@
-use Rattle.std.proofs.Common.{◌≡◌, ◌*◌, true, cond, ◌||◌, eqb, length, sym, ap, ap₂, ◌∙◌, rules}
+use Rattle.std.proofs.Common.{◌≡◌, ◌*◌, true, cond, ◌||◌, length, sym, ap, ap₂, ◌∙◌, rules}
 use Rattle.std.proofs.lemmas.Bool.{eq-eqb}
 use Rattle.units.specs.Numbers.{is_data}
 use Rattle.stores.specs.Calls.{stands_answer}
 use Rattle.sets.specs.Calls.{list_for, ten_stand}
 use Rattle.sets.specs.Calls.Answer.{Gave}
-use Rattle.sets.specs.Calls.Call.{Read}
 use Rattle.sets.specs.Meaning.{view}
-use Rattle.sets.specs.Sets.{read_bytes, status, answer, place_after}
+use Rattle.sets.specs.Sets.{read_bytes, status, place_after}
 use Rattle.sets.proofs.Given.{read_given}
 use Rattle.sets.proofs.set.Set.read.Goals as goal
 

@@ -3,4 +3,3 @@ pub mod Numbers
 pub mod Taken
 pub mod Texts
 pub mod Words
-pub mod Forms

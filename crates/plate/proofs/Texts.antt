@@ -27,15 +27,15 @@ same_right line v w c d n m p q =
     let b = same_code c d (decimal n) (decimal m) a.1 in
     (a.0, b.0, decimal_injective n m (omega arith) (omega arith) b.1)
 
-pub printed_unit : (line text : List ℕ) (q : Request) → Reads line (Ok q) → text ≡ page_of_unit q.version q.code q.unit → Printed line text
+pub printed_unit : (line text : List ℕ) (q : Request) → Reads line (Ok q) → text ≡ page_of_unit q.version q.code q.unit.number → Printed line text
 printed_unit line text q h e =
-    let same : (v : Version) (c : CodeName) (n : ℕ) → Right line v c n → (q.version ≡ v) × (q.code ≡ c) × (q.unit ≡ n) =
-    λ v c n right. same_right line q.version v q.code c q.unit n h.0 right in
+    let same : (v : Version) (c : CodeName) (n : ℕ) → Right line v c n → (q.version ≡ v) × (q.code ≡ c) × (q.unit.number ≡ n) =
+    λ v c n right. same_right line q.version v q.code c q.unit.number n h.0 right in
     record {
       unit = λ v c n right is. let s = same v c n right in
-          e ∙ ap (λ w. page_of_unit w q.code q.unit) s.0 ∙ ap (λ d. page_of_unit v d q.unit) s.1 ∙ ap (λ m. page_of_unit v c m) s.2;
+          e ∙ ap (λ w. page_of_unit w q.code q.unit.number) s.0 ∙ ap (λ d. page_of_unit v d q.unit.number) s.1 ∙ ap (λ m. page_of_unit v c m) s.2;
       no_unit = λ v c n right not. elim (not (subst IsUnit (same v c n right).2 h.1)) [ ];
-      no_form = λ none. elim (none q.version q.code q.unit h.0) [ ];
+      no_form = λ none. elim (none q.version q.code q.unit.number h.0) [ ];
     }
 
 pub printed_refusal : (line text : List ℕ) (f : Refusal) → Reads line (Err f) → text ≡ text_of_refusal f → Printed line text

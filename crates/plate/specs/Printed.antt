@@ -1,8 +1,8 @@
 -- What is printed for a line.
-use Rattle.std.specs.Prelude.{◌≡◌, ℕ, ◌-◌, Bool, true, false, List, replicate, slice_index_or, slice_set}
+use Rattle.std.specs.Prelude.{◌≡◌, ℕ, Bool, false, List, [], ◌∷◌, slice_index_or}
 use Rattle.tables.specs.Multipliers.{cauchy, poly}
 use Rattle.tables.specs.declared.table.Table.{Table}
-use Rattle.codes.specs.Lists.{fetch_list_of}
+use Rattle.codes.specs.Lists.{fetch_list_of, all_without}
 use Rattle.codes.specs.UnitForms.{unit_form}
 use Rattle.codes.specs.declared.version.Version.{Version}
 use Rattle.plate.specs.declared.request.CodeName.{CodeName}
@@ -17,7 +17,7 @@ table_of Poly = poly
 
 -- every unit stands but u
 abbrev pub all_others : ℕ → List Bool
-all_others u = slice_set (replicate 14 true) (u - 1) false
+all_others u = all_without (u ∷ [])
 
 -- the page of unit u under a version and a table: its two forms, and its listed halves if only u were missing
 unfoldable pub table_page : Version → Table → ℕ → List ℕ

@@ -49,6 +49,6 @@ IsUnit n = (1 ≤ n) × (n ≤ 14)
 
 -- what the reading of a line says of it
 abbrev pub Reads : List ℕ → Result Request Refusal → Type 0
-Reads line (Ok q) = Right line q.version q.code q.unit × IsUnit q.unit
+Reads line (Ok q) = Right line q.version q.code q.unit.number × IsUnit q.unit.number
 Reads line (Err refusal.Unit) = (v : Version) × (c : CodeName) × (n : ℕ) × Right line v c n × (IsUnit n → ⊥)
 Reads line (Err refusal.Form) = (v : Version) (c : CodeName) (n : ℕ) → Right line v c n → ⊥

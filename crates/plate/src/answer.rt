@@ -1,77 +1,68 @@
 // The text that is printed for a line.
-ghost use Rattle.std.specs.Prelude.{◌≡◌, ℕ, List, take, IfOk, string_bytes};
-ghost use Rattle.tables.specs.Multipliers.{cauchy, poly};
-ghost use Rattle.plate.specs.declared.request.CodeName.TheVariants as kind;
-ghost use Rattle.plate.specs.Printed.{Printed, all_others, table_page, page_of_unit};
-ghost use Rattle.plate.specs.Requests.{limit, Admitted, IsUnit};
+ghost use Rattle.std.specs.Prelude.{◌≡◌, ◌≢◌, ℕ, List, take, IfOk, string_bytes};
+ghost use Rattle.codes.specs.declared.version.Version.TheVariants.{XorPlus as xor_plus};
+ghost use Rattle.plate.specs.Printed.{Printed, table_page, page_of_unit};
+ghost use Rattle.plate.specs.Requests.{limit, Admitted};
 
 use crate::line::read_request;
 use crate::page::{page, refusal_text};
 use crate::request::{CodeName, Request};
+use codes::base::BaseCode;
 use codes::cauchy::Cauchy;
-use codes::fetch::fetch_list;
+use codes::fetch::{fetch_list, standing_without};
 use codes::forms::unit_forms;
 use codes::poly::Poly;
-use codes::scheme::{NonXor, Rs, Scheme, Xor, XorPlus};
+use codes::scheme::{GoesWith, NonXor, Over, Rs, Xor, XorPlus};
 use codes::version::Version;
 use std::alloc::{AllocError, Global};
+use units::number::UnitNumber;
 
-// Every unit stands but `unit`.
-fn all_but(unit: u8) -> [bool; 14]
-    requires { IsUnit unit }
-    ensures { result ≡ all_others unit }
+// The page of a unit under a version over a base code.
+fn scheme_page<K: GoesWith<C> + Drop, C: BaseCode + Drop>(
+    heap: Global,
+    kind: K,
+    code: C,
+    unit: UnitNumber,
+) -> Result<String, AllocError>
+    ensures { IfOk result (λ s. string_bytes s ≡ table_page K.version (C.table code) unit.number) }
 {
-    let mut standing = [true; 14];
-    standing[unit as usize - 1] = false;
-    standing
-}
-
-// The page of a unit under a scheme.
-fn scheme_page<V: Scheme>(heap: Global, scheme: &V, unit: u8) -> Result<String, AllocError>
-    requires { IsUnit unit }
-    ensures { IfOk result (λ s. string_bytes s ≡ table_page (V.version scheme.now) (V.table scheme.now) unit) }
-{
-    let list = fetch_list(scheme.version(), &all_but(unit), unit);
-    match unit_forms(scheme, unit) {
+    let number = unit.number();
+    let list = fetch_list(K::version(), &standing_without(&[number]), number);
+    match unit_forms(&Over { kind, code }, number) {
         Ok((first, second)) => page(heap, &first.at, &second.at, list.halves()),
         Err(_) => unreachable(),
     }
 }
 
-// The page of a unit under a version over CAUCHY.
-fn cauchy_page(heap: Global, version: Version, unit: u8) -> Result<String, AllocError>
-    requires { IsUnit unit }
-    ensures { IfOk result (λ s. string_bytes s ≡ table_page version cauchy unit) }
+// The page of a unit under a version that goes with every base code.
+fn code_page<C: BaseCode + Drop>(
+    heap: Global,
+    version: Version,
+    code: C,
+    unit: UnitNumber,
+) -> Result<String, AllocError>
+    requires { version ≢ xor_plus }
+    ensures { IfOk result (λ s. string_bytes s ≡ table_page version (C.table code) unit.number) }
 {
     match version {
-        Version::Rs => scheme_page(heap, &Rs(Cauchy::new()), unit),
-        Version::Xor => scheme_page(heap, &Xor(Cauchy::new()), unit),
-        Version::XorPlus => scheme_page(heap, &XorPlus(Cauchy::new()), unit),
-        Version::NonXor => scheme_page(heap, &NonXor(Cauchy::new()), unit),
-    }
-}
-
-// The page of a unit under a version over POLY, which has no XOR+.
-fn poly_page(heap: Global, version: Version, unit: u8) -> Result<String, AllocError>
-    requires { (IsUnit unit) × (Admitted version kind.Poly) }
-    ensures { IfOk result (λ s. string_bytes s ≡ table_page version poly unit) }
-{
-    match version {
-        Version::Rs => scheme_page(heap, &Rs(Poly::new()), unit),
-        Version::Xor => scheme_page(heap, &Xor(Poly::new()), unit),
+        Version::Rs => scheme_page(heap, Rs, code, unit),
+        Version::Xor => scheme_page(heap, Xor, code, unit),
         Version::XorPlus => unreachable(),
-        Version::NonXor => scheme_page(heap, &NonXor(Poly::new()), unit),
+        Version::NonXor => scheme_page(heap, NonXor, code, unit),
     }
 }
 
 // The page of the unit that a request names.
 fn unit_page(heap: Global, request: Request) -> Result<String, AllocError>
-    requires { (IsUnit request.unit) × (Admitted request.version request.code) }
-    ensures { IfOk result (λ s. string_bytes s ≡ page_of_unit request.version request.code request.unit) }
+    requires { Admitted request.version request.code }
+    ensures { IfOk result (λ s. string_bytes s ≡ page_of_unit request.version request.code request.unit.number) }
 {
-    match request.code {
-        CodeName::Cauchy => cauchy_page(heap, request.version, request.unit),
-        CodeName::Poly => poly_page(heap, request.version, request.unit),
+    let version = request.version;
+    let unit = request.unit;
+    match (version, request.code) {
+        (Version::XorPlus, CodeName::Cauchy) => scheme_page(heap, XorPlus, Cauchy::new(), unit),
+        (_, CodeName::Cauchy) => code_page(heap, version, Cauchy::new(), unit),
+        (_, CodeName::Poly) => code_page(heap, version, Poly::new(), unit),
     }
 }
 

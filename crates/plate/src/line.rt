@@ -6,6 +6,7 @@ ghost use Rattle.plate.specs.Requests.{word_of_version, word_of_code, spaced, Re
 
 use crate::request::{CodeName, Refusal, Request};
 use codes::version::Version;
+use units::number::UnitNumber;
 
 // What follows `word` and a space, if the text begins with them.
 fn after<'a>(text: &'a [u8], word: &[u8]) -> Option<&'a [u8]>
@@ -71,24 +72,16 @@ fn number(digits: &[u8]) -> Option<u8>
 pub fn read_request(line: &[u8]) -> Result<Request, Refusal>
     ensures { Reads line.now result }
 {
-    let Some((version, rest)) = version_word(line) else {
-        return Err(Refusal::Form);
-    };
-    let Some((code, digits)) = code_word(rest) else {
-        return Err(Refusal::Form);
-    };
+    let (version, rest) = version_word(line).ok_or(Refusal::Form)?;
+    let (code, digits) = code_word(rest).ok_or(Refusal::Form)?;
     if version == Version::XorPlus && code == CodeName::Poly {
         return Err(Refusal::Form);
     }
-    let Some(unit) = number(digits) else {
-        return Err(Refusal::Form);
-    };
-    match unit {
-        1..=14 => Ok(Request {
-            version,
-            code,
-            unit,
-        }),
-        _ => Err(Refusal::Unit),
-    }
+    let number = number(digits).ok_or(Refusal::Form)?;
+    let unit = UnitNumber::try_from(number)?;
+    Ok(Request {
+        version,
+        code,
+        unit,
+    })
 }

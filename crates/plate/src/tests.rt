@@ -2,22 +2,28 @@
 use crate::input::{Source, read_line};
 use crate::line::read_request;
 use crate::page::{page, refusal_text};
-use crate::request::{CodeName, Refusal, Request};
+use crate::request::{CodeName, Refusal};
 use codes::version::Version;
 use std::alloc::Global;
 use std::process::Abort;
 use std::test::Fail;
 
-fn expected(version: Version, code: CodeName, unit: u8) -> Result<Request, Refusal> {
+fn expected(
+    version: Version,
+    code: CodeName,
+    unit: u8,
+) -> Result<(Version, CodeName, u8), Refusal> {
     match (version, code) {
         (Version::XorPlus, CodeName::Poly) => Err(Refusal::Form),
-        _ if 0 < unit && unit < 15 => Ok(Request {
-            version,
-            code,
-            unit,
-        }),
+        _ if 0 < unit && unit < 15 => Ok((version, code, unit)),
         _ => Err(Refusal::Unit),
     }
+}
+
+// What a line asks for.
+fn read(line: &[u8]) -> Result<(Version, CodeName, u8), Refusal> {
+    let request = read_request(line)?;
+    Ok((request.version, request.code, request.unit.number()))
 }
 
 fn check_numbers(
@@ -30,7 +36,7 @@ fn check_numbers(
         let v = version.1;
         let c = code.1;
         let line = format!(in heap; "{v} {c} {unit}")?;
-        assert!(rt; read_request(line.as_bytes()) == expected(version.0, code.0, unit));
+        assert!(rt; read(line.as_bytes()) == expected(version.0, code.0, unit));
     }
     Ok(())
 }

@@ -1,5 +1,6 @@
 -- The lines that ask for a unit, and what is read from a line.
-use Rattle.std.specs.Prelude.{◌≡◌, ℕ, ◌<◌, ◌≤◌, List, ◌++◌, Ok, Err, codes, decimal, Result}
+use Rattle.std.specs.Prelude.{◌≡◌, ℕ, ◌<◌, ◌≤◌, List, ◌++◌, Ok, Err, codes, decimal, Result, ◌≢◌}
+use Rattle.std.specs.List.{All}
 use Rattle.codes.specs.declared.version.Version.{Version}
 use Rattle.codes.specs.declared.version.Version.TheVariants.{Rs, Xor, XorPlus, NonXor}
 use Rattle.plate.specs.declared.request.CodeName.{CodeName}
@@ -25,6 +26,10 @@ Admitted Xor c = Unit {0}
 Admitted XorPlus Cauchy = Unit {0}
 Admitted XorPlus Poly = ⊥
 Admitted NonXor c = Unit {0}
+
+-- no space is in it
+abbrev pub IsWord : List ℕ → Type 0
+IsWord w = All (λ b. b ≢ 32) w
 
 -- a word, a space and what follows it
 abbrev pub spaced : List ℕ → List ℕ → List ℕ

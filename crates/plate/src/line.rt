@@ -2,49 +2,42 @@
 ghost use Rattle.std.specs.Prelude.{◌≡◌, ℕ, ◌+◌, ◌<◌, List, decimal, MatchOption, ◌≢◌};
 ghost use Rattle.codes.specs.declared.version.Version.{Version as V};
 ghost use Rattle.plate.specs.declared.request.CodeName.{CodeName as C};
-ghost use Rattle.plate.specs.Requests.{word_of_version, word_of_code, spaced, Reads};
+ghost use Rattle.plate.specs.Requests.{word_of_version, word_of_code, IsWord, spaced, Right, Reads};
 
 use crate::request::{CodeName, Refusal, Request};
 use codes::version::Version;
 use units::number::UnitNumber;
 
-// What follows `word` and a space, if the text begins with them.
-fn after<'a>(text: &'a [u8], word: &[u8]) -> Option<&'a [u8]>
-    ensures { MatchOption result ((rest : List ℕ) → text.now ≢ spaced word.now rest) (λ x. text.now ≡ spaced word.now x.now) }
+// What stands before the first space of a text, and behind it.
+fn first_word(text: &[u8]) -> Option<(&[u8], &[u8])>
+    ensures { MatchOption result (IsWord text.now) (λ p. (text.now ≡ spaced p.0.now p.1.now) × IsWord p.0.now) }
 {
-    text.strip_prefix(word)?.strip_prefix(b" ")
+    let end = text.iter().position(|byte| *byte == b' ')?;
+    Some((&text[..end], &text[end + 1..]))
 }
 
-// The version that the text begins with, and what follows its word and a space.
-fn version_word(text: &[u8]) -> Option<(Version, &[u8])>
-    ensures { MatchOption result ((v : V) (rest : List ℕ) → text.now ≢ spaced (word_of_version v) rest) (λ p. text.now ≡ spaced (word_of_version p.0) p.1.now) }
+// The version that a word names.
+fn version_of(word: &[u8]) -> Option<Version>
+    ensures { MatchOption result ((v : V) → word.now ≢ word_of_version v) (λ v. word.now ≡ word_of_version v) }
 {
-    if let Some(rest) = after(text, b"RS") {
-        return Some((Version::Rs, rest));
+    match word {
+        b"RS" => Some(Version::Rs),
+        b"XOR" => Some(Version::Xor),
+        b"XOR+" => Some(Version::XorPlus),
+        b"NONXOR" => Some(Version::NonXor),
+        _ => None,
     }
-    if let Some(rest) = after(text, b"XOR") {
-        return Some((Version::Xor, rest));
-    }
-    if let Some(rest) = after(text, b"XOR+") {
-        return Some((Version::XorPlus, rest));
-    }
-    if let Some(rest) = after(text, b"NONXOR") {
-        return Some((Version::NonXor, rest));
-    }
-    None
 }
 
-// The code that the text begins with, and what follows its word and a space.
-fn code_word(text: &[u8]) -> Option<(CodeName, &[u8])>
-    ensures { MatchOption result ((c : C) (rest : List ℕ) → text.now ≢ spaced (word_of_code c) rest) (λ p. text.now ≡ spaced (word_of_code p.0) p.1.now) }
+// The code that a word names.
+fn code_of(word: &[u8]) -> Option<CodeName>
+    ensures { MatchOption result ((c : C) → word.now ≢ word_of_code c) (λ c. word.now ≡ word_of_code c) }
 {
-    if let Some(rest) = after(text, b"CAUCHY") {
-        return Some((CodeName::Cauchy, rest));
+    match word {
+        b"CAUCHY" => Some(CodeName::Cauchy),
+        b"POLY" => Some(CodeName::Poly),
+        _ => None,
     }
-    if let Some(rest) = after(text, b"POLY") {
-        return Some((CodeName::Poly, rest));
-    }
-    None
 }
 
 // The value of a decimal digit.
@@ -69,15 +62,24 @@ fn number(digits: &[u8]) -> Option<u8>
     }
 }
 
+// The version, the code and the number that a line of the right form names.
+fn named(line: &[u8]) -> Option<(Version, CodeName, u8)>
+    ensures { MatchOption result ((v : V) (c : C) (n : ℕ) → Right line.now v c n → ⊥) (λ p. Right line.now p.0 p.1 p.2) }
+{
+    let (first, rest) = first_word(line)?;
+    let (second, digits) = first_word(rest)?;
+    let version = version_of(first)?;
+    let code = code_of(second)?;
+    if version == Version::XorPlus && code == CodeName::Poly {
+        return None;
+    }
+    Some((version, code, number(digits)?))
+}
+
 pub fn read_request(line: &[u8]) -> Result<Request, Refusal>
     ensures { Reads line.now result }
 {
-    let (version, rest) = version_word(line).ok_or(Refusal::Form)?;
-    let (code, digits) = code_word(rest).ok_or(Refusal::Form)?;
-    if version == Version::XorPlus && code == CodeName::Poly {
-        return Err(Refusal::Form);
-    }
-    let number = number(digits).ok_or(Refusal::Form)?;
+    let (version, code, number) = named(line).ok_or(Refusal::Form)?;
     let unit = UnitNumber::try_from(number)?;
     Ok(Request {
         version,

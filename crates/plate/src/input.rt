@@ -1,8 +1,8 @@
 // Reads a line, and nothing behind it.
-ghost use Rattle.std.specs.Prelude.{◌≡◌, ℕ, ◌≤◌, take, Option as Given};
+ghost use Rattle.std.specs.Prelude.{ℕ, Option as Given};
 ghost use Rattle.plate.specs.Input.{Took};
-ghost use Rattle.plate.specs.Requests.{limit};
 
+use arrayvec::ArrayVec;
 use std::io::Read;
 use std::rt::Stdin;
 
@@ -31,32 +31,16 @@ impl Source for Stdin {
 // One byte more than the longest line that is not refused for its form.
 const ROOM: usize = 17;
 
-// The bytes of a line before its newline, at most `ROOM` of them.
-#[derive(Drop)]
-pub struct Line {
-    bytes: [u8; ROOM],
-    len: usize,
-    ghost within: { len ≤ limit },
-}
-
-impl Line {
-    pub fn bytes(&self) -> &[u8]
-        ensures { result.now ≡ take self.now.len self.now.bytes }
-    {
-        &self.bytes[0..self.len]
-    }
-}
-
-// Reads up to a newline, the end of the input or `ROOM` bytes, so that it waits for nothing behind the newline.
-pub fn read_line<S: Source>(input: &mut S) -> Line
-    ensures { Took S.gives input.old (take result.len result.bytes) input.new }
+// Reads the bytes of a line: up to a newline, the end of the input or `ROOM` bytes, so that it waits for nothing behind the newline.
+pub fn read_line<S: Source>(input: &mut S) -> ArrayVec<u8, ROOM>
+    ensures { Took S.gives input.old result.items input.new }
 {
-    let mut bytes = [0; ROOM];
-    for len in 0..ROOM {
+    let mut line = ArrayVec::new();
+    while !line.is_full() {
         match input.next_byte() {
-            None | Some(b'\n') => return Line { bytes, len },
-            Some(byte) => bytes[len] = byte,
+            None | Some(b'\n') => break,
+            Some(byte) => line.push(byte),
         }
     }
-    Line { bytes, len: ROOM }
+    line
 }

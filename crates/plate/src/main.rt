@@ -14,7 +14,7 @@ use std::io;
 
 fn main(rt: HostRuntime) -> io::Result<()> {
     let line = read_line(&mut rt.stdin());
-    rt.print(answer(rt.alloc(), line.bytes())?)
+    rt.print(answer(rt.alloc(), line.as_slice())?)
 }
 
 #[cfg(test)]

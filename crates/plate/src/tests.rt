@@ -108,7 +108,7 @@ fn check_line(rt: &impl Abort, input: &[u8], line: &[u8], calls: usize) {
         calls: 0,
     };
     let read = read_line(&mut feed);
-    assert!(rt; read.bytes() == line);
+    assert!(rt; read.as_slice() == line);
     assert_eq!(rt; feed.calls, calls);
 }
 

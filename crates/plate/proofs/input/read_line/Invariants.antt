@@ -1,6 +1,9 @@
-use Rattle.std.proofs.Common.{◌≡◌, length, take}
+use Rattle.std.proofs.Common.{◌-◌, length}
 use Rattle.plate.specs.Input.{Gave}
 use Rattle.plate.proofs.input.read_line.Given as goal
 
-abbrev pub invariant-loop-len : goal.invariant-loop-len
-invariant-loop-len g l = Gave g.S.Source.gives l.initial.input (take l.len l.bytes) l.input × (length l.bytes ≡ 17)
+abbrev pub invariant-loop-input : goal.invariant-loop-input
+invariant-loop-input g l = Gave g.S.Source.gives l.initial.input l.line.items l.input
+
+abbrev pub decreases-loop-input : goal.decreases-loop-input
+decreases-loop-input g l = 17 - length l.line.items

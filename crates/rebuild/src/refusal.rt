@@ -19,7 +19,7 @@ impl From<NoUnit> for Refusal {
     ghost from_gives = { λ _ e. e ≡ no_unit };
 
     fn from(_: NoUnit) -> Refusal {
-        Refusal::NoUnit
+        Self::NoUnit
     }
 }
 

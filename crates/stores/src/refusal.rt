@@ -31,7 +31,7 @@ impl From<NoUnit> for Refusal {
     ghost from_gives = { λ _ e. e ≡ of_call.Unit };
 
     fn from(_: NoUnit) -> Refusal {
-        Refusal::Unit
+        Self::Unit
     }
 }
 

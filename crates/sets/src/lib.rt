@@ -5,6 +5,7 @@
 pub mod calls;
 pub mod changing;
 mod data;
+mod encoding;
 pub mod filling;
 mod gathering;
 mod halves;
@@ -15,4 +16,3 @@ pub mod rebuilds;
 pub mod refusal;
 pub mod set;
 pub mod ticket;
-mod units;

@@ -1,8 +1,7 @@
 // What the walk prints.
-use crate::data::column;
-use crate::lost::{show_losses, without};
-use codes::encode::encode_unit;
-use codes::fetch::fetch_list;
+use crate::data::{Units, units_at};
+use crate::lost::show_losses;
+use codes::fetch::{fetch_list, standing_without};
 use codes::list::FetchList;
 use codes::refusal::Refusal;
 use codes::scheme::Scheme;
@@ -12,38 +11,38 @@ use std::io;
 // The fourteen units under one scheme, the halves to fetch for each of them, and lost units rebuilt.
 pub fn show_scheme<V: Scheme>(rt: &impl Print, name: &str, scheme: &V) -> io::Result<()> {
     println!(rt; "\n{name}")?;
-    for u in 1..15u8 {
-        show_unit(rt, scheme, u)?;
+    match encoded(scheme) {
+        Ok(bytes) => {
+            show_units(rt, &bytes)?;
+            show_lists(rt, scheme.version())?;
+            show_losses(rt, scheme, &bytes)
+        }
+        Err(e) => println!(rt; "refused with {}", e.number()),
     }
-    show_lists(rt, scheme.version())?;
-    show_losses(rt, scheme)
+}
+
+// The fourteen units at both byte positions.
+fn encoded<V: Scheme>(scheme: &V) -> Result<[Units; 2], Refusal> {
+    Ok([units_at(scheme, 0)?, units_at(scheme, 1)?])
+}
+
+// Each unit: the two bytes of its first half, and those of its second.
+fn show_units(rt: &impl Print, [one, two]: &[Units; 2]) -> io::Result<()> {
+    for (u, ((a, b), (c, d))) in (1..15u8).zip(one.iter().zip(two)) {
+        println!(rt; "unit {u}: {a} {c} | {b} {d}")?;
+    }
+    Ok(())
 }
 
 // The halves to fetch for each unit lost alone, and how many they are together.
 fn show_lists(rt: &impl Print, version: Version) -> io::Result<()> {
     let mut total = 0usize;
     for u in 1..15u8 {
-        let list = lost_list(version, u);
+        let list = fetch_list(version, &standing_without(&[u]), u);
         show_list(rt, u, &list)?;
         total = total.saturating_add(list.halves().len());
     }
     println!(rt; "all fourteen units lost in turn: {total} halves, Reed-Solomon 280")
-}
-
-// One unit: the two bytes of its first half, and those of its second.
-fn show_unit<V: Scheme>(rt: &impl Print, scheme: &V, u: u8) -> io::Result<()> {
-    let one = encode_unit(scheme, &column(1, 0), &column(2, 0), u);
-    let two = encode_unit(scheme, &column(1, 1), &column(2, 1), u);
-    match (one, two) {
-        (Ok((a, b)), Ok((c, d))) => println!(rt; "unit {u}: {a} {c} | {b} {d}"),
-        (Err(e), _) => println!(rt; "unit {u}: refused with {}", e.number()),
-        (_, Err(e)) => println!(rt; "unit {u}: refused with {}", e.number()),
-    }
-}
-
-// The listed halves where only unit u is missing.
-fn lost_list(version: Version, u: u8) -> FetchList {
-    fetch_list(version, &without(&[u]), u)
 }
 
 // The halves to fetch for a lost unit, and how many fewer they are than Reed-Solomon's twenty.

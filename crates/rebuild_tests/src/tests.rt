@@ -10,96 +10,68 @@ use rebuild::plan::Plan;
 use rebuild::refusal::Refusal as PlanRefusal;
 use std::process::Abort;
 use std::test::Fail;
+use units::number::UnitNumber;
 
 // What the generator starts from; each pattern adds its own number.
 const SEED: u32 = 20_250_101;
 
-// The next state of a linear congruential generator.
-fn next(state: u32) -> u32 {
-    state.wrapping_mul(1_664_525).wrapping_add(1_013_904_223)
+// A linear congruential generator.
+#[derive(Drop)]
+struct Generator {
+    state: u32,
 }
 
-// Ten bytes from a state, and the state behind them.
-fn ten_bytes(start: u32) -> ([u8; 10], u32) {
-    let mut bytes = [0u8; 10];
-    let mut state = start;
-    for k in 0..10usize {
-        state = next(state);
-        bytes[k] = ((state >> 16) % 256) as u8;
+impl Generator {
+    fn byte(&mut self) -> u8 {
+        self.state = self
+            .state
+            .wrapping_mul(1_664_525)
+            .wrapping_add(1_013_904_223);
+        ((self.state >> 16) % 256) as u8
     }
-    (bytes, state)
+
+    fn ten_bytes(&mut self) -> [u8; 10] {
+        std::array::from_fn(|_| self.byte())
+    }
 }
 
-// The fourteen units of data from a state.
-fn filling<V: Scheme>(scheme: &V, start: u32) -> Result<[(u8, u8); 14], Refusal> {
-    let (a, state) = ten_bytes(start);
-    let (b, _) = ten_bytes(state);
-    let mut units = [(0u8, 0u8); 14];
-    for p in 0..14u8 {
-        units[p as usize] = encode_unit(scheme, &a, &b, p + 1)?;
-    }
-    Ok(units)
+// The fourteen units of data from a seed.
+fn filling<V: Scheme>(scheme: &V, seed: u32) -> Result<[(u8, u8); 14], Refusal> {
+    let mut generator = Generator { state: seed };
+    let a = generator.ten_bytes();
+    let b = generator.ten_bytes();
+    std::array::try_from_fn(|p| encode_unit(scheme, &a, &b, p as u8 + 1))
 }
 
 // The units that stand under a pattern: those whose bit is set.
 fn standing_of(pattern: u32) -> [bool; 14] {
-    let mut standing = [false; 14];
-    let mut left = pattern;
-    for p in 0..14usize {
-        standing[p] = left % 2 == 1;
-        left /= 2;
-    }
-    standing
-}
-
-// The byte of one half; 0 for a number that is no unit.
-fn byte_of(units: &[(u8, u8); 14], u: u8, half: u8) -> u8 {
-    if u == 0 || u > 14 {
-        return 0;
-    }
-    let (first, second) = units[u as usize - 1];
-    if half == 1 { first } else { second }
-}
-
-// The bytes of the listed halves, in order; what is behind them must not count.
-fn fetched(list: &[(u8, u8)], units: &[(u8, u8); 14]) -> [u8; 20] {
-    let mut bytes = [171u8; 20];
-    let count = list.len().min(20);
-    for i in 0..count {
-        bytes[i] = byte_of(units, list[i].0, list[i].1);
-    }
-    bytes
+    std::array::from_fn(|p| (pattern >> p) & 1 == 1)
 }
 
 // How many halves are listed for the missing unit u, where so many are missing.
 fn expected_length(version: Version, u: u8, missing: usize) -> usize {
-    if missing > 1 || u > 10 {
-        return 20;
-    }
     match version {
+        _ if missing > 1 || u > 10 => 20,
         Version::Rs => 20,
-        Version::Xor => { if u > 6 { 14 } else { 13 } }
-        Version::XorPlus => 13,
-        Version::NonXor => 13,
+        Version::Xor if u > 6 => 14,
+        Version::Xor | Version::XorPlus | Version::NonXor => 13,
     }
 }
 
-// One missing unit: the length of its list, and the unit as it was.
+// One missing unit: the length of its list, and the unit as it was; what is behind the list must not count.
 fn rebuilds<V: Scheme>(
     scheme: &V,
     units: &[(u8, u8); 14],
     standing: &[bool; 14],
     u: u8,
 ) -> Result<bool, PlanRefusal> {
+    let position = UnitNumber::try_from(u)?.position();
     let missing = 14usize.saturating_sub(count_standing(standing));
     let plan = Plan::new(scheme, standing, u)?;
     let list = plan.list();
-    let (first, second) = plan.rebuild(&fetched(list.halves(), units));
-    Ok(
-        list.halves().len() == expected_length(scheme.version(), u, missing)
-            && first == byte_of(units, u, 1)
-            && second == byte_of(units, u, 2),
-    )
+    let expected = expected_length(scheme.version(), u, missing);
+    let rebuilt = plan.rebuild(&list.pick(units, 171));
+    Ok(list.halves().len() == expected && rebuilt == units[position])
 }
 
 // Every missing unit of one pattern; how many there were.
@@ -110,9 +82,9 @@ fn rebuilds_each<V: Scheme>(
     standing: &[bool; 14],
 ) -> Result<usize, Fail> {
     let mut rebuilt = 0usize;
-    for p in 0..14u8 {
-        if !standing[p as usize] {
-            assert!(rt; rebuilds(scheme, units, standing, p + 1)?);
+    for (u, stands) in (1..15u8).zip(standing) {
+        if !*stands {
+            assert!(rt; rebuilds(scheme, units, standing, u)?);
             rebuilt = rebuilt.saturating_add(1);
         }
     }
@@ -122,8 +94,7 @@ fn rebuilds_each<V: Scheme>(
 // One pattern with data of its own; how many units were rebuilt, none where not one to four are missing.
 fn rebuilds_pattern<V: Scheme>(rt: &impl Abort, scheme: &V, pattern: u32) -> Result<usize, Fail> {
     let standing = standing_of(pattern);
-    let count = count_standing(&standing);
-    if count < 10 || count == 14 {
+    if !(10..14).contains(&count_standing(&standing)) {
         return Ok(0);
     }
     let units = filling(scheme, SEED.wrapping_add(pattern))?;
@@ -136,9 +107,7 @@ fn rebuilds_all<V: Scheme>(rt: &impl Abort, scheme: &V) -> Result<(), Fail> {
     let mut rebuilt = 0usize;
     for pattern in 0..16_384u32 {
         let units = rebuilds_pattern(rt, scheme, pattern)?;
-        if units > 0 {
-            patterns = patterns.saturating_add(1);
-        }
+        patterns = patterns.saturating_add(usize::from(units > 0));
         rebuilt = rebuilt.saturating_add(units);
     }
     assert_eq!(rt; patterns, 1470);
@@ -175,19 +144,16 @@ fn refusals(rt: HostRuntime) {
     let scheme = Xor.over(Poly::new());
     let all = [true; 14];
     let none = [false; 14];
-    assert_eq!(rt; refused_with(&scheme, &all, 0), 1);
-    assert_eq!(rt; refused_with(&scheme, &none, 15), 1);
-    assert_eq!(rt; refused_with(&scheme, &all, 14), 8);
-    assert_eq!(rt; refused_with(&scheme, &standing_of(1), 1), 8);
-    assert_eq!(rt; refused_with(&scheme, &standing_of(1), 2), 5);
-    assert_eq!(rt; refused_with(&scheme, &none, 14), 5);
-    assert_eq!(rt; refused_with(&scheme, &standing_of(1023), 14), 0);
+    assert_eq!(rt; refused_with(&scheme, &all, 0), Some(1));
+    assert_eq!(rt; refused_with(&scheme, &none, 15), Some(1));
+    assert_eq!(rt; refused_with(&scheme, &all, 14), Some(8));
+    assert_eq!(rt; refused_with(&scheme, &standing_of(1), 1), Some(8));
+    assert_eq!(rt; refused_with(&scheme, &standing_of(1), 2), Some(5));
+    assert_eq!(rt; refused_with(&scheme, &none, 14), Some(5));
+    assert_eq!(rt; refused_with(&scheme, &standing_of(1023), 14), None);
 }
 
-// The number that a plan is refused with; 0 where it is made.
-fn refused_with<V: Scheme>(scheme: &V, standing: &[bool; 14], u: u8) -> u8 {
-    match Plan::new(scheme, standing, u) {
-        Ok(_) => 0,
-        Err(e) => e.number(),
-    }
+// The number that a plan is refused with, if it is.
+fn refused_with<V: Scheme>(scheme: &V, standing: &[bool; 14], u: u8) -> Option<u8> {
+    Plan::new(scheme, standing, u).err().map(|e| e.number())
 }

@@ -72,11 +72,14 @@ fn rebuilt<V: Scheme>(
 ) -> Result<Tally, Refusal> {
     let unit = UnitNumber::try_from(u)?;
     let plan = Plan::new(scheme, standing, u)?;
-    let list = plan.list();
-    let truly = bytes.iter().all(|units| plan.rebuild(&list.pick(units, 0))
-        == units[unit.position()]);
+    let truly = bytes.iter().all(|units| is_true(&plan, units, unit));
     Ok(Tally {
         rebuilt: usize::from(truly),
-        fetched: list.halves().len(),
+        fetched: plan.list().halves().len(),
     })
+}
+
+// Whether the plan rebuilds both bytes that its unit had at one byte position.
+fn is_true(plan: &Plan, units: &Units, unit: UnitNumber) -> bool {
+    plan.rebuild(&plan.list().pick(units, 0)) == units[unit.position()]
 }

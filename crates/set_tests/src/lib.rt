@@ -5,6 +5,8 @@
 #[cfg(test)]
 mod data;
 #[cfg(test)]
+mod held;
+#[cfg(test)]
 mod rebuilt;
 #[cfg(test)]
 mod runs;
@@ -14,5 +16,3 @@ mod sizes;
 mod tests;
 #[cfg(test)]
 mod tickets;
-#[cfg(test)]
-mod units;

@@ -11,7 +11,23 @@ use stores::area::AreaStore;
 use stores::shelves::TwoShelf;
 use stores::store::UnitStore;
 
-// Calls and checks on a new set whose half size is 4.
+// Something done under a scheme: a trait, since a closure would take one type of scheme.
+pub(crate) trait UnderScheme {
+    fn run<V: Scheme + Drop>(&self, rt: &impl Abort, scheme: V) -> Result<(), Fail>;
+}
+
+// Under each version over each base code that it goes with.
+pub(crate) fn under_all<C: UnderScheme>(rt: &impl Abort, case: &C) -> Result<(), Fail> {
+    case.run(rt, Rs.over(Cauchy::new()))?;
+    case.run(rt, Rs.over(Poly::new()))?;
+    case.run(rt, Xor.over(Cauchy::new()))?;
+    case.run(rt, Xor.over(Poly::new()))?;
+    case.run(rt, NonXor.over(Cauchy::new()))?;
+    case.run(rt, NonXor.over(Poly::new()))?;
+    case.run(rt, XorPlus.over(Cauchy::new()))
+}
+
+// Calls and checks on a new set of any types, whose half size is 4.
 pub(crate) trait Run {
     fn run<V: Scheme, S: UnitStore>(
         &self,
@@ -20,14 +36,20 @@ pub(crate) trait Run {
     ) -> Result<(), Fail>;
 }
 
+// A run over both stores.
+#[derive(Clone, Copy)]
+struct OverBoth<'a, R> {
+    run: &'a R,
+}
+
+impl<R: Run> UnderScheme for OverBoth<'_, R> {
+    fn run<V: Scheme + Drop>(&self, rt: &impl Abort, scheme: V) -> Result<(), Fail> {
+        over_both(rt, self.run, scheme)
+    }
+}
+
 pub(crate) fn everywhere<R: Run>(rt: &impl Abort, run: &R) -> Result<(), Fail> {
-    over_both(rt, run, Rs.over(Cauchy::new()))?;
-    over_both(rt, run, Rs.over(Poly::new()))?;
-    over_both(rt, run, Xor.over(Cauchy::new()))?;
-    over_both(rt, run, Xor.over(Poly::new()))?;
-    over_both(rt, run, NonXor.over(Cauchy::new()))?;
-    over_both(rt, run, NonXor.over(Poly::new()))?;
-    over_both(rt, run, XorPlus.over(Cauchy::new()))
+    under_all(rt, &OverBoth { run })
 }
 
 // Over an area with the hop length 2, and then over two shelves.
@@ -37,24 +59,29 @@ pub(crate) fn over_both<V: Scheme + Drop, R: Run>(
     scheme: V,
 ) -> Result<(), Fail> {
     let mut area = [170u8; 112];
-    let mut set = Set::new(scheme, AreaStore::new(&mut area, 4, 2));
-    let result = run.run(rt, &mut set);
-    let (scheme, _store) = set.into_parts();
-    result?;
-    over_shelves(rt, run, scheme)
-}
-
-fn over_shelves<V: Scheme + Drop, R: Run>(rt: &impl Abort, run: &R, scheme: V) -> Result<(), Fail> {
     let mut low = [170u8; 168];
     let mut high = [85u8; 112];
+    let scheme = over(rt, run, scheme, AreaStore::new(&mut area, 4, 2))?;
     let shelves = TwoShelf::new(
         AreaStore::new(&mut low, 6, 3),
         AreaStore::new(&mut high, 4, 1),
     );
-    let mut set = Set::new(scheme, shelves);
+    let _ = over(rt, run, scheme, shelves)?;
+    Ok(())
+}
+
+// Over one store; gives the scheme back.
+pub(crate) fn over<V: Scheme + Drop, S: UnitStore + Drop, R: Run>(
+    rt: &impl Abort,
+    run: &R,
+    scheme: V,
+    store: S,
+) -> Result<V, Fail> {
+    let mut set = Set::new(scheme, store);
     let result = run.run(rt, &mut set);
-    let _ = set.into_parts();
-    result
+    let (scheme, _) = set.into_parts();
+    result?;
+    Ok(scheme)
 }
 
 // Loses the units.
@@ -63,8 +90,8 @@ pub(crate) fn lose_all<V: Scheme, S: UnitStore>(
     set: &mut Set<V, S>,
     units: &[u8],
 ) -> Result<(), Fail> {
-    for i in 0..units.len() {
-        assert_eq!(rt; set.lose(units[i]), Ok(()));
+    for u in units {
+        assert_eq!(rt; set.lose(*u), Ok(()));
     }
     Ok(())
 }
@@ -84,27 +111,15 @@ pub(crate) fn reads<V: Scheme, S: UnitStore>(
 }
 
 // A read that is declined and leaves the place as it was.
-pub(crate) fn declines_read<V: Scheme, S: UnitStore>(
+pub(crate) fn declines_read<const N: usize, V: Scheme, S: UnitStore>(
     rt: &impl Abort,
     set: &Set<V, S>,
     u: u8,
+    before: [u8; N],
     refusal: Refusal,
 ) -> Result<(), Fail> {
-    let mut place = [7u8; 8];
+    let mut place = before;
     assert_eq!(rt; set.read(u, &mut place), Err(refusal));
-    assert_eq!(rt; place, [7; 8]);
-    Ok(())
-}
-
-// The same of a place that is too short.
-pub(crate) fn declines_short_read<V: Scheme, S: UnitStore>(
-    rt: &impl Abort,
-    set: &Set<V, S>,
-    u: u8,
-    refusal: Refusal,
-) -> Result<(), Fail> {
-    let mut place = [7u8; 7];
-    assert_eq!(rt; set.read(u, &mut place), Err(refusal));
-    assert_eq!(rt; place, [7; 7]);
+    assert_eq!(rt; place, before);
     Ok(())
 }

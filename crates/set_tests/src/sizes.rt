@@ -1,7 +1,8 @@
 // Worked figures, and whole fillings at the half sizes 0, 1 and 512.
-use crate::data::{byte_at, is_unit, mixed, replace_unit};
+use crate::data::{is_unit, mixed, replace_unit};
+use crate::held::is_filling;
 use crate::rebuilt::rebuild;
-use crate::units::is_filling;
+use crate::runs::{UnderScheme, under_all};
 use codes::cauchy::Cauchy;
 use codes::poly::Poly;
 use codes::scheme::{GoesWith, NonXor, Rs, Scheme, Xor, XorPlus};
@@ -10,23 +11,20 @@ use sets::set::Set;
 use std::process::Abort;
 use std::test::*;
 use stores::area::AreaStore;
+use stores::refusal::Refusal as StoreRefusal;
 use stores::shelves::TwoShelf;
 use stores::store::UnitStore;
 
 // The byte of one half in a store of half size 1.
-fn byte_in<S: UnitStore>(store: &S, u: u8, half: u8) -> u8 {
-    let mut place = [0u8; 1];
-    let _ = store.read(u, half, &mut place);
-    byte_at(&place, 0)
+fn byte_in<S: UnitStore>(store: &S, u: u8, half: u8) -> Result<u8, StoreRefusal> {
+    let mut place = [0u8];
+    store.read(u, half, &mut place)?;
+    Ok(place[0])
 }
 
 // Units 11 to 14 of such a store.
-fn parities<S: UnitStore>(store: &S) -> [(u8, u8); 4] {
-    let mut units = [(0u8, 0u8); 4];
-    for k in 0..4u8 {
-        units[k as usize] = (byte_in(store, k + 11, 1), byte_in(store, k + 11, 2));
-    }
-    units
+fn parities<S: UnitStore>(store: &S) -> Result<[(u8, u8); 4], StoreRefusal> {
+    [11, 12, 13, 14].try_map(|u| Ok((byte_in(store, u, 1)?, byte_in(store, u, 2)?)))
 }
 
 // Fills a set over either store with data that is zero but unit u, and looks at the parities in the store.
@@ -36,134 +34,125 @@ fn fills_to<V: Scheme + Drop>(
     u: u8,
     unit: &[u8],
     figures: [(u8, u8); 4],
-) -> Result<(), Fail> {
+) {
     let mut data = [0u8; 20];
     replace_unit(&mut data, u, unit);
     let mut area = [0u8; 28];
-    let mut set = Set::new(scheme, AreaStore::new(&mut area, 1, 1));
-    let filled = set.fill(&data);
-    let (scheme, store) = set.into_parts();
-    assert_eq!(rt; filled, Ok(()));
-    assert_eq!(rt; parities(&store), figures);
-    fills_shelves_to(rt, scheme, &data, figures)
-}
-
-fn fills_shelves_to<V: Scheme + Drop>(
-    rt: &impl Abort,
-    scheme: V,
-    data: &[u8],
-    figures: [(u8, u8); 4],
-) -> Result<(), Fail> {
     let mut low = [0u8; 28];
     let mut high = [0u8; 56];
+    let scheme = fills_store_to(rt, scheme, AreaStore::new(&mut area, 1, 1), &data, figures);
     let shelves = TwoShelf::new(
         AreaStore::new(&mut low, 1, 1),
         AreaStore::new(&mut high, 2, 1),
     );
-    let mut set = Set::new(scheme, shelves);
+    let _ = fills_store_to(rt, scheme, shelves, &data, figures);
+}
+
+// The same over one store; gives the scheme back.
+fn fills_store_to<V: Scheme, S: UnitStore + Drop>(
+    rt: &impl Abort,
+    scheme: V,
+    store: S,
+    data: &[u8],
+    figures: [(u8, u8); 4],
+) -> V {
+    let mut set = Set::new(scheme, store);
     let filled = set.fill(data);
-    let (_scheme, store) = set.into_parts();
+    let (scheme, store) = set.into_parts();
     assert_eq!(rt; filled, Ok(()));
-    assert_eq!(rt; parities(&store), figures);
-    Ok(())
+    assert_eq!(rt; parities(&store), Ok(figures));
+    scheme
 }
 
 #[test]
-fn figures(rt: HostRuntime) -> Result<(), Fail> {
+fn figures(rt: HostRuntime) {
     fills_to(
         &rt,
         Xor.over(Cauchy::new()),
         10,
         &[1, 0],
         [(245, 0), (1, 0), (83, 0), (142, 1)],
-    )?;
+    );
     fills_to(
         &rt,
         XorPlus.over(Cauchy::new()),
         10,
         &[1, 0],
         [(245, 0), (1, 0), (83, 0), (142, 0)],
-    )?;
+    );
     fills_to(
         &rt,
         NonXor.over(Poly::new()),
         10,
         &[1, 0],
         [(15, 0), (54, 0), (120, 0), (64, 0)],
-    )?;
+    );
     fills_to(
         &rt,
         XorPlus.over(Cauchy::new()),
         9,
         &[1, 1],
         [(143, 143), (0, 1), (201, 201), (244, 245)],
-    )
+    );
 }
 
-// Loses unit u, changes a data unit, which is u if it can be, reads that and rebuilds u.
-fn lose_and_rebuild<V: Scheme, S: UnitStore>(
-    rt: &impl Abort,
-    set: &mut Set<V, S>,
-    data: &mut [u8],
-    unit: &[u8],
+// A unit to lose at some half size: the area and the data before, and the new bytes of a data unit.
+#[derive(Clone, Copy)]
+struct Lost<const AREA: usize, const DATA: usize, const UNIT: usize> {
     u: u8,
-    place: &mut [u8],
-) -> Result<(), Fail> {
-    let changed = if u <= 10 { u } else { 1 };
-    assert_eq!(rt; set.fill(data), Ok(()));
-    assert_eq!(rt; set.lose(u), Ok(()));
-    assert_eq!(rt; set.change(changed, unit), Ok(4));
-    replace_unit(data, changed, unit);
-    assert!(rt; set.read(changed, place).is_ok());
-    assert!(rt; is_unit(data, changed, place));
-    let _ = rebuild(set, u)?;
-    Ok(())
+    area: [u8; AREA],
+    bytes: [u8; DATA],
+    unit: [u8; UNIT],
 }
 
-// All fourteen units are those of the changed data then.
-fn rebuilds<V: Scheme + Drop>(
-    rt: &impl Abort,
-    scheme: V,
-    area: &mut [u8],
-    data: &mut [u8],
-    unit: &[u8],
-    u: u8,
-    place: &mut [u8],
-) -> Result<(), Fail> {
-    let h = unit.len() / 2;
-    let mut set = Set::new(scheme, AreaStore::new(area, h, h));
-    let result = lose_and_rebuild(rt, &mut set, data, unit, u, place);
-    let (scheme, store) = set.into_parts();
-    result?;
-    assert!(rt; is_filling(&scheme, &store, data));
-    Ok(())
+impl<const AREA: usize, const DATA: usize, const UNIT: usize> Lost<AREA, DATA, UNIT> {
+    // Loses the unit, changes a data unit, which is the lost one if it can be, reads that and rebuilds the lost one.
+    fn lose_and_rebuild<V: Scheme, S: UnitStore>(
+        &self,
+        rt: &impl Abort,
+        set: &mut Set<V, S>,
+        data: &mut [u8],
+    ) -> Result<(), Fail> {
+        let Lost { u, unit, .. } = *self;
+        let mut place: [u8; UNIT] = mixed(13);
+        let changed = if u <= 10 { u } else { 1 };
+        assert_eq!(rt; set.fill(data), Ok(()));
+        assert_eq!(rt; set.lose(u), Ok(()));
+        assert_eq!(rt; set.change(changed, &unit), Ok(4));
+        replace_unit(data, changed, &unit);
+        assert!(rt; set.read(changed, &mut place).is_ok());
+        assert!(rt; is_unit(data, changed, &place));
+        assert!(rt; rebuild(set, u)?.is_some());
+        Ok(())
+    }
 }
 
-fn rebuilds_one_byte<V: Scheme + Drop>(rt: &impl Abort, scheme: V, u: u8) -> Result<(), Fail> {
-    let mut area = [0u8; 28];
-    let mut data: [u8; 20] = mixed(u as u32);
-    let unit: [u8; 2] = mixed(10);
-    rebuilds(rt, scheme, &mut area, &mut data, &unit, u, &mut [0; 2])
-}
-
-fn rebuilds_largest<V: Scheme + Drop>(rt: &impl Abort, scheme: V, u: u8) -> Result<(), Fail> {
-    let mut area: [u8; 14_336] = mixed(12);
-    let mut data: [u8; 10_240] = mixed(u as u32);
-    let unit: [u8; 1024] = mixed(11);
-    let mut place: [u8; 1024] = mixed(13);
-    rebuilds(rt, scheme, &mut area, &mut data, &unit, u, &mut place)
+impl<const AREA: usize, const DATA: usize, const UNIT: usize> UnderScheme
+    for Lost<AREA, DATA, UNIT> {
+    // All fourteen units are those of the changed data then.
+    fn run<V: Scheme + Drop>(&self, rt: &impl Abort, scheme: V) -> Result<(), Fail> {
+        let mut area = self.area;
+        let mut data = self.bytes;
+        let h = UNIT / 2;
+        let mut set = Set::new(scheme, AreaStore::new(&mut area, h, h));
+        let result = self.lose_and_rebuild(rt, &mut set, &mut data);
+        let (scheme, store) = set.into_parts();
+        result?;
+        assert!(rt; is_filling(&scheme, &store, &data));
+        Ok(())
+    }
 }
 
 #[test]
 fn halves_of_one_byte(rt: HostRuntime) -> Result<(), Fail> {
     for u in 1..15u8 {
-        rebuilds_one_byte(&rt, Rs.over(Cauchy::new()), u)?;
-        rebuilds_one_byte(&rt, Rs.over(Poly::new()), u)?;
-        rebuilds_one_byte(&rt, Xor.over(Cauchy::new()), u)?;
-        rebuilds_one_byte(&rt, Xor.over(Poly::new()), u)?;
-        rebuilds_one_byte(&rt, NonXor.over(Cauchy::new()), u)?;
-        rebuilds_one_byte(&rt, NonXor.over(Poly::new()), u)?;
-        rebuilds_one_byte(&rt, XorPlus.over(Cauchy::new()), u)?;
+        let lost = Lost {
+            u,
+            area: [0; 28],
+            bytes: mixed::<20>(u as u32),
+            unit: mixed::<2>(10),
+        };
+        under_all(&rt, &lost)?;
     }
     Ok(())
 }
@@ -171,13 +160,13 @@ fn halves_of_one_byte(rt: HostRuntime) -> Result<(), Fail> {
 #[test]
 fn largest_halves(rt: HostRuntime) -> Result<(), Fail> {
     for u in 1..15u8 {
-        rebuilds_largest(&rt, Rs.over(Cauchy::new()), u)?;
-        rebuilds_largest(&rt, Rs.over(Poly::new()), u)?;
-        rebuilds_largest(&rt, Xor.over(Cauchy::new()), u)?;
-        rebuilds_largest(&rt, Xor.over(Poly::new()), u)?;
-        rebuilds_largest(&rt, NonXor.over(Cauchy::new()), u)?;
-        rebuilds_largest(&rt, NonXor.over(Poly::new()), u)?;
-        rebuilds_largest(&rt, XorPlus.over(Cauchy::new()), u)?;
+        let lost = Lost {
+            u,
+            area: mixed::<14_336>(12),
+            bytes: mixed::<10_240>(u as u32),
+            unit: mixed::<1024>(11),
+        };
+        under_all(&rt, &lost)?;
     }
     Ok(())
 }
@@ -192,7 +181,7 @@ fn calls_without_bytes<V: Scheme, S: UnitStore>(
     assert_eq!(rt; set.change(1, &[]), Ok(5));
     assert_eq!(rt; set.lose(1), Ok(()));
     assert_eq!(rt; set.read(1, &mut []), Ok(13));
-    assert_eq!(rt; rebuild(set, 1)?.closed, 13);
+    assert_eq!(rt; rebuild(set, 1)?, Some(13));
     Ok(())
 }
 

@@ -1,6 +1,6 @@
 // Tickets of one set handed to another: one under XOR, where unit 2 is listed with 13 halves, and one under RS, with 20.
 use crate::data::mixed;
-use crate::rebuilt::{close, gather};
+use crate::rebuilt::{close, gather, gather_some};
 use codes::cauchy::Cauchy;
 use codes::poly::Poly;
 use codes::scheme::{GoesWith, Rs, Scheme, Xor};
@@ -73,26 +73,18 @@ fn open_both<V: Scheme, S: UnitStore, W: Scheme, T: UnitStore>(
     }
 }
 
-// The kind, unit and count of a ticket; the kind is 1 if it is full.
-fn numbers(ticket: &AnyTicket) -> (u8, u8, u8) {
-    match ticket {
-        AnyTicket::Open(t) => (0, t.unit(), t.count()),
-        AnyTicket::Full(t) => (1, t.unit(), t.count()),
-    }
+#[derive(Clone, Copy, PartialEq, Eq, Debug)]
+enum Kind {
+    Open,
+    Full,
 }
 
-// Gathers up to so many halves.
-fn gather_some<V: Scheme, S: UnitStore>(
-    set: &mut Set<V, S>,
-    start: AnyTicket,
-    n: usize,
-) -> AnyTicket {
-    let mut ticket = start;
-    for _ in 0..n {
-        let (_half, next) = gather(set, ticket);
-        ticket = next;
+// The kind, unit and count of a ticket.
+fn numbers(ticket: &AnyTicket) -> (Kind, u8, u8) {
+    match ticket {
+        AnyTicket::Open(t) => (Kind::Open, t.unit(), t.count()),
+        AnyTicket::Full(t) => (Kind::Full, t.unit(), t.count()),
     }
-    ticket
 }
 
 #[derive(Drop)]
@@ -113,11 +105,11 @@ impl Exchange for OtherNumbers {
         let (half, mine) = gather(one, mine);
         let counted = numbers(&mine);
         let ended = one.give_up(mine);
-        assert_eq!(rt; refused, (0, 0));
-        assert_eq!(rt; kept, (0, 3, 0));
+        assert_eq!(rt; refused, None);
+        assert_eq!(rt; kept, (Kind::Open, 3, 0));
         assert_eq!(rt; given_up, Err(Refusal::WrongTicket));
-        assert_eq!(rt; half, (1, 2));
-        assert_eq!(rt; counted, (0, 2, 1));
+        assert_eq!(rt; half, Some((1, 2)));
+        assert_eq!(rt; counted, (Kind::Open, 2, 1));
         assert_eq!(rt; ended, Ok(()));
         // no ticket is left of the rebuild in the second set, which stays open
         assert_eq!(rt; two.lose(1), Err(Refusal::RebuildOpen));
@@ -149,10 +141,10 @@ impl Exchange for SameNumbers {
         let other = gather_some(one, other, 20);
         let mine = gather_some(two, mine, 20);
         let closed = (close(one, other), close(two, mine));
-        assert_eq!(rt; taken, (1, 2));
-        assert_eq!(rt; stale, (0, 0));
-        assert_eq!(rt; crossed, (1, 1));
-        assert_eq!(rt; closed, (13, 20));
+        assert_eq!(rt; taken, Some((1, 2)));
+        assert_eq!(rt; stale, None);
+        assert_eq!(rt; crossed, Some((1, 1)));
+        assert_eq!(rt; closed, (Some(13), Some(20)));
         Ok(())
     }
 }
@@ -181,10 +173,10 @@ impl Exchange for KeptOverGiveUp {
         let (of_two, kept) = reopened(one, 2, kept);
         let ended = one.give_up(kept);
         assert_eq!(rt; given_up, Ok(()));
-        assert_eq!(rt; idle, (0, 0));
+        assert_eq!(rt; idle, None);
         assert_eq!(rt; lost, Ok(()));
-        assert_eq!(rt; of_three, ((0, 0), Ok(())));
-        assert_eq!(rt; of_two, ((1, 1), Err(Refusal::WrongTicket)));
+        assert_eq!(rt; of_three, (None, Ok(())));
+        assert_eq!(rt; of_two, (Some((1, 1)), Err(Refusal::WrongTicket)));
         assert_eq!(rt; ended, Ok(()));
         Ok(())
     }
@@ -195,14 +187,14 @@ fn reopened<V: Scheme, S: UnitStore>(
     set: &mut Set<V, S>,
     u: u8,
     kept: AnyTicket,
-) -> (((u8, u8), Result<(), Refusal>), AnyTicket) {
+) -> ((Option<(u8, u8)>, Result<(), Refusal>), AnyTicket) {
     match set.open(u) {
         Ok(new) => {
             let (half, kept) = gather(set, kept);
             let answer = set.give_up(AnyTicket::Open(new));
             ((half, answer), kept)
         }
-        Err(e) => (((0, 0), Err(e)), kept),
+        Err(e) => ((None, Err(e)), kept),
     }
 }
 
@@ -231,30 +223,27 @@ impl Exchange for WrongKind {
         let (next, other) = gather(two, other);
         let other = gather_some(two, other, 20);
         let idle = close_in_turn(one, two, other);
-        assert_eq!(rt; both, ((1, 2, 13), (0, 2, 13)));
-        assert_eq!(rt; refused, (0, 0));
-        assert_eq!(rt; closed, (7, 13));
-        assert_eq!(rt; next, (8, 2));
-        assert_eq!(rt; idle, (7, 20));
+        assert_eq!(rt; both, ((Kind::Full, 2, 13), (Kind::Open, 2, 13)));
+        assert_eq!(rt; refused, None);
+        assert_eq!(rt; closed, (None, Some(13)));
+        assert_eq!(rt; next, Some((8, 2)));
+        assert_eq!(rt; idle, (None, Some(20)));
         Ok(())
     }
 }
 
-// What the first set answers to closing, and then the second: 7 where the ticket comes back, 0 where there is none to close.
+// What the first set answers to closing, and then the second; none where the ticket comes back or none is to close.
 fn close_in_turn<V: Scheme, S: UnitStore, W: Scheme, T: UnitStore>(
     first: &mut Set<V, S>,
     second: &mut Set<W, T>,
     ticket: AnyTicket,
-) -> (u8, u8) {
+) -> (Option<u8>, Option<u8>) {
     match ticket {
-        AnyTicket::Open(t) => {
-            let _ = second.give_up(AnyTicket::Open(t));
-            (0, 0)
-        }
         AnyTicket::Full(t) => match first.close(t) {
-            Ok(n) => (n, 0),
-            Err(t) => (7, close(second, AnyTicket::Full(t))),
+            Ok(n) => (Some(n), None),
+            Err(t) => (None, close(second, AnyTicket::Full(t))),
         },
+        open => (None, close(second, open)),
     }
 }
 

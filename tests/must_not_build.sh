@@ -44,8 +44,8 @@ case_of() {
 }
 
 case_of "XOR+ over POLY" codes unsatisfied-bound \
-    'pub fn misuse(code: poly::Poly) -> scheme::XorPlus<poly::Poly> { scheme::XorPlus(code) }' \
-    'pub fn misuse(code: cauchy::Cauchy) -> scheme::XorPlus<cauchy::Cauchy> { scheme::XorPlus(code) }'
+    'pub fn misuse(code: poly::Poly) -> version::Version { scheme::Scheme::version(&scheme::Over { kind: scheme::XorPlus, code }) }' \
+    'pub fn misuse(code: cauchy::Cauchy) -> version::Version { scheme::Scheme::version(&scheme::Over { kind: scheme::XorPlus, code }) }'
 
 # Tickets: the fronts of functions that take a set and an open or a full ticket, or a ticket alone
 on_set='pub fn misuse<V: codes::scheme::Scheme, S: stores::store::UnitStore>(set: &mut set::Set<V, S>,'
@@ -71,7 +71,7 @@ case_of "a ticket used twice" sets borrow-e0382 \
     "$by_open { $give_up_open }"
 
 case_of "a forged ticket" archive private-field \
-    'pub fn misuse() -> sets::ticket::FullTicket { sets::ticket::FullTicket { unit: 2, count: 13 } }' \
+    'pub fn misuse() -> sets::ticket::FullTicket { sets::ticket::FullTicket { unit: 2, count: 13, stage: std::marker::PhantomData } }' \
     'pub fn misuse(t: sets::ticket::FullTicket) -> (u8, u8, sets::ticket::FullTicket) { (t.unit(), t.count(), t) }'
 
 case_of "a gather whose result is dropped" sets linear-value-let-go \

@@ -4,7 +4,7 @@ use crate::office::{Kind, run};
 use crate::tally::Tally;
 use crate::telling::{count_same, unit_of};
 use archive::order::{Asked, Line, Told};
-use codes::fetch::fetch_list;
+use codes::fetch::{fetch_list, standing_without};
 use recordings::cutting::Part;
 use recordings::link::link_ms;
 use std::alloc::{AllocError, Global};
@@ -46,11 +46,7 @@ fn run_rebuild<'a>(
 
 // How many halves are fetched for the lost unit, if all others stand.
 fn list_length(kind: Kind, lost: u8) -> u8 {
-    let mut standing = [true; 14];
-    if lost >= 1 && lost <= 14 {
-        standing[lost as usize - 1] = false;
-    }
-    let list = fetch_list(kind.version(), &standing, lost);
+    let list = fetch_list(kind.version(), &standing_without(&[lost]), lost);
     list.halves().len().min(20) as u8
 }
 

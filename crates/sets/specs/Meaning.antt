@@ -24,7 +24,7 @@ make g s = record { version = g.version s; table = g.table s; sound = g.sound s 
 
 -- the halves gathered so far, each as long as those of the store
 abbrev pub gathered_of : ℕ → OpenRebuild → List (List ℕ)
-gathered_of h r = map (take h) (take r.count r.halves)
+gathered_of h r = map (take h) (take r.count r.room.halves)
 
 -- what is known of an open rebuild; of none, that no unit stood, nothing is listed and nothing gathered
 abbrev pub under_of : Option OpenRebuild → ℕ

@@ -45,7 +45,7 @@ impl OpenRebuild {
         let half = self.list.halves()[count as usize];
         let mut place = [0u8; 512];
         fetch(store, half.0, half.1, &mut place);
-        self.halves[count as usize] = place;
+        self.room.halves[count as usize] = place;
         self.count = count + 1;
         if count + 1 < self.listed() {
             Gathered::More(half, Ticket::new(unit, count + 1))
@@ -67,7 +67,7 @@ impl OpenRebuild {
             &self.stood,
             self.unit,
             &self.list,
-            &self.halves,
+            &self.room,
             h,
             bytes,
         );

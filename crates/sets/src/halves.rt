@@ -1,10 +1,11 @@
 // Halves from a store.
-ghost use Rattle.std.specs.Prelude.{◌≡◌, ◌+◌, ◌<◌, map, length, take};
+ghost use Rattle.std.specs.Prelude.{◌≡◌, ◌+◌, ◌<◌, map, take};
 ghost use Rattle.codes.specs.Lists.{listed};
 ghost use Rattle.stores.specs.Calls.{stands_answer};
 ghost use Rattle.sets.specs.Calls.{pattern};
 ghost use Rattle.sets.specs.Rebuilding.{fetched};
 
+use crate::room::Room;
 use codes::list::FetchList;
 use stores::store::UnitStore;
 
@@ -31,14 +32,12 @@ pub(crate) fn fetch<S: UnitStore>(store: &S, unit: u8, half: u8, place: &mut [u8
 }
 
 // Fetches all the halves of a list.
-pub(crate) fn fetch_all<S: UnitStore>(store: &S, list: &FetchList, halves: &mut [[u8; 512]; 20])
-    requires { length halves.old ≡ 20 }
-    ensures long { length halves.new ≡ 20 }
-    ensures fetched { map (take (S.UnitStore.model store.now).size) (take list.now.len halves.new) ≡ map (fetched (S.UnitStore.model store.now)) (listed list.now) }
+pub(crate) fn fetch_all<S: UnitStore>(store: &S, list: &FetchList, room: &mut Room)
+    ensures { map (take (S.UnitStore.model store.now).size) (take list.now.len room.new.halves) ≡ map (fetched (S.UnitStore.model store.now)) (listed list.now) }
 {
     for (n, (unit, half)) in list.halves().iter().enumerate() {
         let mut place = [0u8; 512];
         fetch(store, *unit, *half, &mut place);
-        halves[n] = place;
+        room.halves[n] = place;
     }
 }

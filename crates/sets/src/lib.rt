@@ -14,5 +14,6 @@ pub mod reading;
 mod rebuilding;
 pub mod rebuilds;
 pub mod refusal;
+mod room;
 pub mod set;
 pub mod ticket;

@@ -1,8 +1,9 @@
 // The record of an open rebuild.
-ghost use Rattle.std.specs.Prelude.{◌≡◌, ◌-◌, ◌≤◌, false, length};
+ghost use Rattle.std.specs.Prelude.{◌≡◌, ◌-◌, ◌≤◌, false};
 ghost use Rattle.tables.specs.Codewords.{count as count_of};
 ghost use Rattle.rebuild.specs.Plans.{stands_in};
 
+use crate::room::Room;
 use codes::list::FetchList;
 use units::number::UnitNumber;
 
@@ -12,11 +13,10 @@ pub(crate) struct OpenRebuild {
     // which units stood when it was opened, and its list
     pub(crate) stood: [bool; 14],
     pub(crate) list: FetchList,
-    // the halves gathered: the first `count` of them, in fixed memory since no call allocates
-    pub(crate) halves: [[u8; 512]; 20],
+    // the halves gathered: the first `count`, in fixed memory since no call allocates
+    pub(crate) room: Room,
     pub(crate) count: u8,
     ghost within: { count ≤ list.len },
     ghost lost: { stands_in stood (unit.number - 1) ≡ false },
     ghost ten: { 10 ≤ count_of 14 (stands_in stood) },
-    ghost room: { length halves ≡ 20 },
 }

@@ -10,6 +10,7 @@ ghost use Rattle.sets.specs.Sets.{answer, place_after, read_bytes, status};
 use crate::halves::{fetch_all, standing};
 use crate::rebuilding::rebuild_bytes;
 use crate::refusal::Refusal;
+use crate::room::Room;
 use crate::set::Set;
 use codes::fetch::{count_standing, fetch_list};
 use codes::scheme::Scheme;
@@ -55,14 +56,14 @@ impl<V: Scheme, S: UnitStore> Set<V, S> {
             return 2;
         }
         let list = fetch_list(self.scheme.version(), stood, u);
-        let mut halves = [[0u8; 512]; 20];
-        fetch_all(&self.store, &list, &mut halves);
+        let mut room = Room::new();
+        fetch_all(&self.store, &list, &mut room);
         rebuild_bytes(
             &self.scheme,
             stood,
             unit,
             &list,
-            &halves,
+            &room,
             self.store.size(),
             place,
         );

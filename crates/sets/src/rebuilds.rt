@@ -8,6 +8,7 @@ ghost use Rattle.sets.specs.Sets.{answer, after, status};
 use crate::halves::standing;
 use crate::open_rebuild::OpenRebuild;
 use crate::refusal::Refusal;
+use crate::room::Room;
 use crate::set::Set;
 use crate::ticket::{AnyTicket, FullTicket, Gathered, OpenTicket, Stage, Ticket};
 use codes::fetch::{count_standing, fetch_list};
@@ -37,7 +38,7 @@ impl<V: Scheme, S: UnitStore> Set<V, S> {
             unit,
             stood,
             list,
-            halves: [[0; 512]; 20],
+            room: Room::new(),
             count: 0,
         });
         Ok(Ticket::new(u, 0))

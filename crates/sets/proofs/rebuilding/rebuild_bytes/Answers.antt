@@ -17,5 +17,5 @@ returns g c =
     let p = c.in-Ok.ensures in
     let l = c.args.list.now in
     let same : c.number.result ≡ c.args.unit.number = search rules in
-    rebuilt_all (make g.V.Scheme s) c.args.stood.now c.args.unit.number (listed l) c.args.halves.now l.len c.args.h c.write_rebuilt.new.place _ _ _ _
+    rebuilt_all (make g.V.Scheme s) c.args.stood.now c.args.unit.number (listed l) c.args.room.now.halves l.len c.args.h c.write_rebuilt.new.place _ _ _ _
     p.0 p.1 p.2 (p.3 ∙ same) c.requires.can (length-take-le _ _ (omega arith)) (omega arith) c.write_rebuilt.ensures.bytes c.write_rebuilt.ensures.only

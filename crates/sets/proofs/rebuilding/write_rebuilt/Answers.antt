@@ -11,7 +11,7 @@ use Rattle.sets.proofs.rebuilding.write_rebuilt.Goals as goal
 
 pub loop-i-preserved : goal.loop-i-preserved
 loop-i-preserved c =
-    let hs = c.args.halves.now in
+    let hs = c.args.room.now.halves in
     let plan = c.args.plan.now in
     let list = listed c.args.list.now in
     let P : ℕ → ℕ × ℕ → Type 0 = λ i r. Only (λ x. x < 256) 0 bit_xor gmul plan.encoder.version plan.encoder.table (stands_in plan.standing) plan.unit.number (fetched_by 0 list (column hs i) 1) (fetched_by 0 list (column hs i) 2) r in

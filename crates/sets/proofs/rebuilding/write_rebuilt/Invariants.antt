@@ -10,5 +10,5 @@ use Rattle.sets.proofs.rebuilding.write_rebuilt.Given as goal
 
 abbrev pub invariant-loop-i : goal.invariant-loop-i
 invariant-loop-i l =
-    ((i : ℕ) → i < l.i → (k : ℕ) → get_or (column l.halves i) k 0 < 256)
-    × Written (λ i r. Only (λ x. x < 256) 0 bit_xor gmul l.plan.encoder.version l.plan.encoder.table (stands_in l.plan.standing) l.plan.unit.number (fetched_by 0 (listed l.list) (column l.halves i) 1) (fetched_by 0 (listed l.list) (column l.halves i) 2) r) l.h l.i l.place
+    ((i : ℕ) → i < l.i → (k : ℕ) → get_or (column l.room.halves i) k 0 < 256)
+    × Written (λ i r. Only (λ x. x < 256) 0 bit_xor gmul l.plan.encoder.version l.plan.encoder.table (stands_in l.plan.standing) l.plan.unit.number (fetched_by 0 (listed l.list) (column l.room.halves i) 1) (fetched_by 0 (listed l.list) (column l.room.halves i) 2) r) l.h l.i l.place

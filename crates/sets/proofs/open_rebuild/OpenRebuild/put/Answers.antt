@@ -21,8 +21,8 @@ returns g c =
     let place = c.rebuild_bytes.new.place in
     let is : place ≡ rebuilt_bytes m n self.stood u (listed self.list) (gathered_of n self) =
     c.rebuild_bytes.ensures
-    ∙ ap (λ h. rebuilt_bytes m h self.stood u (listed self.list) (map (take h) (take self.list.len self.halves))) c.size-h.ensures
-    ∙ ap (λ k. rebuilt_bytes m n self.stood u (listed self.list) (map (take n) (take k self.halves))) all in
+    ∙ ap (λ h. rebuilt_bytes m h self.stood u (listed self.list) (map (take h) (take self.list.len self.room.halves))) c.size-h.ensures
+    ∙ ap (λ k. rebuilt_bytes m n self.stood u (listed self.list) (map (take n) (take k self.room.halves))) all in
     c.put.ensures.store
     ∙ ap (λ k. put_store s k place) unit_is
     ∙ put_is s u place (unit_true u self.unit.low self.unit.high) (omega (arith, c.rebuild_bytes.auto.place, c.size-h.ensures))

@@ -15,5 +15,4 @@ invariant_of-self g c =
       lost = ap (λ (st : List Bool). stands_in st (unit.number - 1)) c.standing-stood.ensures ∙ pattern_at (stands_answer s) unit.number unit.low unit.high
           ∙ ap (stands_answer s) same ∙ sym c.stands.ensures ∙ c.if-stands.false;
       ten = subst (λ (n : ℕ). 10 ≤ n) c.count_standing.ensures c.if-count_standing-lt10.false;
-      room = omega arith;
     }

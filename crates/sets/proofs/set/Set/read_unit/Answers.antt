@@ -20,7 +20,6 @@ rebuild_bytes-requires g c =
     let small = (g.S.UnitStore.sound c.args.self.now.store).small in
     record {
       can = subst (λ (st : List Bool). can_rebuild st u ≡ true) (sym c.requires.stood) (missing_can f u c.args.unit.low c.args.unit.high (unit_true u c.args.unit.low c.args.unit.high) (ap f (sym c.number-u.ensures) ∙ sym c.stands.ensures ∙ c.if-stands.false) c.requires.can);
-      room = c.fetch_all.ensures.long;
       small = omega (arith, small, c.size.ensures);
       place = omega (arith, c.requires.place, c.size.ensures);
     }
@@ -43,5 +42,5 @@ returns g c =
     record {
       fetched = ap length (c.halves.ensures ∙ list) ∙ sym (cond-false (stands_answer s u) _ _ out);
       bytes = c.rebuild_bytes.ensures ∙ read_missing v u _ _ _ _ out c.size.ensures c.requires.stood list
-          (ap (λ k. map (take k) (take c.fetch_list-list.result.len c.fetch_all.new.halves)) c.size.ensures ∙ c.fetch_all.ensures.fetched);
+          (ap (λ k. map (take k) (take c.fetch_list-list.result.len c.fetch_all.new.room.halves)) c.size.ensures ∙ c.fetch_all.ensures);
     }

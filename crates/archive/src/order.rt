@@ -38,6 +38,7 @@ pub enum Asked<'a> {
     Open(u8),
     Gather(u8, u8),
     Close(u8, u8),
+    // by the ticket's kind, unit and count, as a log prints them
     GiveUpOpen(u8, u8),
     GiveUpFull(u8, u8),
 }

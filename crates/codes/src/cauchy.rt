@@ -7,6 +7,7 @@ use crate::base::{BaseCode, PlainSecond};
 use tables::known::cauchy_table;
 use tables::table::{Row, Table};
 
+// POLY has the same two members, and another law and column: no generic code says both.
 #[derive(Clone, Copy)]
 pub struct Cauchy {
     table: Table,

@@ -47,6 +47,7 @@ fn code_page<C: BaseCode + Drop>(
     match version {
         Version::Rs => scheme_page(heap, Rs, code, unit),
         Version::Xor => scheme_page(heap, Xor, code, unit),
+        // no type of scheme has XOR+ over every code
         Version::XorPlus => unreachable(),
         Version::NonXor => scheme_page(heap, NonXor, code, unit),
     }

@@ -96,7 +96,8 @@ fn figures(rt: HostRuntime) {
     );
 }
 
-// A unit to lose at some half size: the area and the data before, and the new bytes of a data unit.
+// A unit to lose at some half size: the area and the data before, and the new bytes of a data unit. They are fields, since an array
+// of a const parameter's length that a function makes itself is not known to fit in memory.
 #[derive(Clone, Copy)]
 struct Lost<const AREA: usize, const DATA: usize, const UNIT: usize> {
     u: u8,

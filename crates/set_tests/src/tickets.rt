@@ -13,7 +13,7 @@ use stores::area::AreaStore;
 use stores::shelves::TwoShelf;
 use stores::store::UnitStore;
 
-// What is done with the two sets.
+// What is done with the two sets, of any types: a closure takes one type each.
 trait Exchange {
     fn run<V: Scheme, S: UnitStore, W: Scheme, T: UnitStore>(
         &self,

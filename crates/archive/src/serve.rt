@@ -113,7 +113,7 @@ impl From<Result<u8, Refusal>> for Reply {
 
     fn from(answer: Result<u8, Refusal>) -> Reply {
         match answer {
-            Ok(n) => Reply::Done(n),
+            Ok(number) => Reply::Done(number),
             Err(e) => Reply::Declined(e),
         }
     }

@@ -36,7 +36,7 @@ impl fmt::Display for Kind {
 }
 
 impl Kind {
-    // Where its sets stand.
+    // Where its sets stand: a second text beside that of `Display`.
     pub fn place(self) -> &'static str {
         match self {
             Kind::XorPlus => "on two shelves",
@@ -96,7 +96,7 @@ pub fn run_with_old<'a>(
 }
 
 // Serves the steps on a new set with halves of that size, one call for each line of the log. The ticket that the clerk still
-// holds at the end comes back.
+// holds at the end comes back. Each scheme is of another type, so none can be chosen as a value or a closure.
 fn serve_steps<'s, 'a>(
     kind: Kind,
     half: usize,

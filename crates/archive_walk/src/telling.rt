@@ -117,7 +117,7 @@ impl<'a> Teller<'a> {
     }
 }
 
-// A call, as what the clerk does.
+// A call, as what the clerk does: sentences of this program, so no `Display` of the library's type.
 pub fn print_asked(rt: &impl Print, asked: &Asked) -> io::Result<()> {
     match asked {
         Asked::Fill(bytes) => print!(rt; "fill with {} bytes", bytes.len()),

@@ -1,11 +1,23 @@
 -- Sums of products, of any kind of symbol.
-use Rattle.std.proofs.Common.{◌≡◌, ℕ, zero, suc, ◌<◌, ◌⊎◌, List, [], ◌∷◌, length, get_or, suc-ne-zero, inl, inr, sym, refl, ap, ◌∙◌, ap₂, arith}
+use Rattle.std.proofs.Common.{◌≡◌, ℕ, zero, suc, ◌+◌, ◌-◌, ◌<◌, ◌≤◌, ◌⊎◌, List, [], ◌∷◌, length, get_or, suc-ne-zero, inl, inr, sym, refl, ap, ◌∙◌, ap₂, arith}
 use lib.Bits.{bit_xor}
 use Rattle.std.specs.List.{zip, fold}
 use Rattle.field.specs.Arithmetic.{gmul}
 use Rattle.field.specs.Space.{Space, dot}
 
 module _ {S : Type 0} (none : S) (sum : S → S → S) (times : ℕ → S → S) where
+  -- one product more, below the others
+  pub dot_down : (n k : ℕ) (r : ℕ → ℕ) (x : ℕ → S) → 0 < k → k ≤ n
+      → sum (times (r (k - 1)) (x (k - 1))) (dot none sum times (n - k) (λ i. r (k + i)) (λ i. x (k + i)))
+      ≡ dot none sum times (n - (k - 1)) (λ i. r (k - 1 + i)) (λ i. x (k - 1 + i))
+  dot_down n k r x p h =
+      let more : suc (n - k) ≡ n - (k - 1) = omega arith in
+      let first : k - 1 ≡ k - 1 + 0 = omega arith in
+      let next : (i : ℕ) → k + i ≡ k - 1 + suc i = λ i. omega arith in
+      ap₂ sum (ap (λ i. times (r i) (x i)) first)
+      (ap₂ (dot none sum times (n - k)) (λ j i. r (next i j)) (λ j i. x (next i j)))
+      ∙ ap (λ m. dot none sum times m (λ i. r (k - 1 + i)) (λ i. x (k - 1 + i))) more
+
   -- the same multipliers and symbols below n
   pub dot_same : (n : ℕ) (r s : ℕ → ℕ) (x y : ℕ → S) → ((k : ℕ) → k < n → r k ≡ s k) → ((k : ℕ) → k < n → x k ≡ y k)
       → dot none sum times n r x ≡ dot none sum times n s y

@@ -98,5 +98,10 @@ fn xor_rows(x: &[u8; 20], y: &[u8; 20]) -> [u8; 20]
 fn scale_row(c: u8, x: &[u8; 20]) -> [u8; 20]
     ensures { result ≡ map (gmul c) x.now }
 {
-    x.map(|byte| crate::mul(c, byte))
+    // in place: `map` over an array takes twice the time
+    let mut at = *x;
+    for byte in at.iter_mut() {
+        *byte = crate::mul(c, *byte);
+    }
+    at
 }

@@ -44,6 +44,10 @@ case_of() {
 }
 
 case_of "XOR+ over POLY" codes unsatisfied-bound \
+    'pub fn misuse(code: poly::Poly) -> scheme::Over<scheme::XorPlus, poly::Poly> { scheme::Over { kind: scheme::XorPlus, code } }' \
+    'pub fn misuse(code: cauchy::Cauchy) -> scheme::Over<scheme::XorPlus, cauchy::Cauchy> { scheme::Over { kind: scheme::XorPlus, code } }'
+
+case_of "the version of XOR+ over POLY" codes unsatisfied-bound \
     'pub fn misuse(code: poly::Poly) -> version::Version { scheme::Scheme::version(&scheme::Over { kind: scheme::XorPlus, code }) }' \
     'pub fn misuse(code: cauchy::Cauchy) -> version::Version { scheme::Scheme::version(&scheme::Over { kind: scheme::XorPlus, code }) }'
 

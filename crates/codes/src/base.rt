@@ -1,5 +1,5 @@
 // Base codes: what a code means, the law that it keeps, and its calls.
-ghost use Rattle.std.specs.Prelude.{◌≡◌, ◌<◌, length, if◌then◌else◌, bit_xor, get_or, slice_index};
+ghost use Rattle.std.specs.Prelude.{◌≡◌, ◌<◌, [], length, if◌then◌else◌, bit_xor, get_or, slice_index};
 ghost use Rattle.field.specs.Arithmetic.{gmul};
 ghost use Rattle.field.specs.Space.{dot};
 ghost use Rattle.tables.specs.Codewords.{Sound, Plain};
@@ -44,6 +44,7 @@ pub trait BaseCode {
 pub trait PlainSecond: BaseCode {
     // The second row: ten ones.
     fn second_row(&self) -> Row
+        ensures held { result ≡ get_or (Self.BaseCode.table self.now).rows 1 (record { at = [] }) }
         ensures value { result ≡ row (entry (Self.BaseCode.table self.now) 1) }
         ensures ones { Plain (entry (Self.BaseCode.table self.now)) };
 

@@ -137,7 +137,14 @@ pub fn standing_without(missing: &[u8]) -> [bool; 14]
 pub fn count_standing(standing: &[bool; 14]) -> usize
     ensures { result ≡ count 14 (λ p. slice_index_or standing.now p false) }
 {
-    standing.iter().filter(|stands| **stands).count()
+    // a loop, since `filter` and `count` take longer than these fourteen places
+    let mut seen = 0usize; // standing units among those before
+    for stands in standing {
+        if *stands {
+            seen += 1;
+        }
+    }
+    seen
 }
 
 // Both halves of the ten lowest standing units.

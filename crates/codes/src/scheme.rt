@@ -110,7 +110,7 @@ impl<C: BaseCode> GoesWith<C> for NonXor {
 
 // A version over a base code.
 #[derive(Drop)]
-pub struct Over<K, C> {
+pub struct Over<K: GoesWith<C>, C: BaseCode> {
     pub kind: K,
     pub code: C,
 }

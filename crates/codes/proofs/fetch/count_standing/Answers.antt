@@ -1,16 +1,15 @@
-use Rattle.std.proofs.Common.{◌≡◌, ◌∙◌, ap, false, length, get_or, arith, rules}
-use borrow.Author.Tests.{tests}
-use Rattle.std.proofs.lemmas.Iterator.{YieldsList-from_slice}
-use Rattle.std.proofs.lemmas.Iterator.Consumers.{count_from_yields_List, YieldsList-from_filter}
-use Rattle.tables.specs.Codewords.{count}
-use Rattle.codes.proofs.Listings.{count_filtered}
+use Rattle.std.proofs.Common.{ℕ, ◌+◌, Bool, false, get_or, sym, ap, ◌∙◌, arith}
+use Rattle.tables.proofs.Counts.{count_yes, count_no}
 use Rattle.codes.proofs.fetch.count_standing.Goals as goal
+use Rattle.codes.proofs.fetch.count_standing.Goals.{then-stands, else-stands}
 
-pub returns : goal.returns
-returns c =
-    let bs = c.args.standing.now in
-    let long : length bs ≡ 14 = omega arith in
-    count_from_yields_List c.filter.result c.count.result c.count.ensures.ran
-    (YieldsList-from_filter _ (λ b. b) (YieldsList-from_slice bs (cc)) c.filter.ensures.closure (λ x r q k. search (rules, tests)))
-    ∙ count_filtered bs
-    ∙ ap (λ n. count n (λ p. get_or bs p false)) long
+pub loop-stands-preserved : goal.loop-stands-preserved
+loop-stands-preserved c =
+    let p = c.loop-stands.stands-index in
+    let t = c.loop-stands.invariant in
+    let f : ℕ → Bool = λ k. get_or c.args.standing.now k false in
+    elim c.if-stands.branch [
+      | then-stands w ↦
+          (omega (arith, w.seen-is, t.0), w.seen-is ∙ ap (λ n. n + 1) t.1 ∙ sym (count_yes p f w.if-stands.true))
+      | else-stands w ↦ (omega (arith, w.seen-is, t.0), w.seen-is ∙ t.1 ∙ sym (count_no p f w.if-stands.false))
+    ]

@@ -81,3 +81,12 @@ hops_laid h q unit first second a b l ae al be bl below p pb =
     (λ r c. let rb : r < h = omega arith in
     ap (λ t. get_or t r 0) be ∙ get_or-take h (drop (q * h) second) r 0 rb ∙ get_or-drop (q * h) second r 0 ∙ laid_at h 2 q r (holds first second) rb (omega arith) (omega arith) ∙ ap f (omega arith))
     p (omega arith)
+
+-- with hops of one byte
+pub alternate_at : (k i : ℕ) → position 1 k i ≡ 2 * i + (k - 1)
+alternate_at k i = ap (position 1 k) (omega arith) ∙ position_in 1 k i 0 (omega arith) ∙ omega arith
+
+pub alternate_laid : (k i : ℕ) (s : Slot) → 1 ≤ k → k ≤ 2 → get_or (half_of s k) i 0 ≡ get_or (half_of s (half_at 1 (2 * i + (k - 1)))) (index_at 1 (2 * i + (k - 1))) 0
+alternate_laid k i s k1 k2 =
+    ap (λ j. get_or (half_of s k) j 0) (omega arith) ∙ laid_at 1 k i 0 s (omega arith) k1 k2
+    ∙ ap (λ p. get_or (half_of s (half_at 1 p)) (index_at 1 p) 0) (omega arith)

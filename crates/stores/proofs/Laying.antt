@@ -1,8 +1,8 @@
 -- Halves that are laid out as a unit are read back from it.
-use Rattle.std.proofs.Common.{◌≡◌, ℕ, suc, ◌+◌, ◌*◌, ◌%◌, ◌<◌, ◌≤◌, List, [], ◌∷◌, map, length, get_or, take, drop, sym, refl, ap, ◌∙◌, ⊎_elim, mod-eq_of_lt, arith}
+use Rattle.std.proofs.Common.{◌≡◌, ℕ, suc, ◌+◌, ◌*◌, ◌%◌, ◌<◌, ◌≤◌, eqb, List, [], ◌∷◌, map, length, get_or, take, drop, sym, refl, ap, ◌∙◌, ⊎_elim, mod-eq_of_lt, arith}
 use Rattle.std.proofs.lemmas.List.{length-take, get_or-take, get_or-drop, length-take-le, length-drop, get_or_past}
 use Rattle.std.proofs.lemmas.List.FromFn.{fill_by_all, get_or-map-range_with_len, length-map-range_with_len}
-use Rattle.std.proofs.lemmas.Bool.{cases_lt}
+use Rattle.std.proofs.lemmas.Bool.{cases_lt, cases_eq, eq-eqb, ne_eqb, cond-true, cond-false}
 use Rattle.stores.specs.Model.{Slot, half_of, halves}
 use Rattle.stores.specs.Layout.{half_at, index_at, position, half_in, laid}
 use Rattle.stores.specs.Area.{as_byte, slot_in}
@@ -22,6 +22,19 @@ take_bytes n bs f i =
     (λ (t : i < n). rw (get_or-take n bs i 0 t) (f i))
     (λ (t : n ≤ i). rw (get_or_past (take n bs) i 0 (simp length-take (omega arith))) (omega arith))
     (cases_lt i n)
+
+-- byte i of half 1 + x, where the halves stand in a row
+pub in_a_row : (n x i : ℕ) (bs : List ℕ) → x < 2 → i < n → get_or bs (x * n + i) 0 ≡ get_or (half_of (halves n bs) (1 + x)) i 0
+in_a_row n x i bs xb ib =
+    ⊎_elim
+    (λ (t : x ≡ 0).
+    ap (λ z. get_or bs (z * n + i) 0) t ∙ ap (λ z. get_or bs z 0) (omega arith) ∙ sym (get_or-take n bs i 0 ib)
+    ∙ ap (λ z. get_or z i 0) (sym (cond-true (eqb (1 + x) 1) (take n bs) (drop n bs) (eq-eqb (1 + x) 1 (omega arith)))))
+    (λ (t : x ≡ 0 → ⊥).
+    let o : x ≡ 1 = omega arith in
+    ap (λ z. get_or bs (z * n + i) 0) o ∙ ap (λ z. get_or bs z 0) (omega arith) ∙ sym (get_or-drop n bs i 0)
+    ∙ ap (λ z. get_or z i 0) (sym (cond-false (eqb (1 + x) 1) (take n bs) (drop n bs) (ne_eqb (1 + x) 1 (λ e. t (omega arith))))))
+    (cases_eq x 0)
 
 half_in_laid : (h n k : ℕ) (s : Slot) → (0 < n → Hops h n) → 1 ≤ k → k ≤ 2 → length (half_of s k) ≡ n → half_of s k ≡ half_in h n (laid h n s) k
 half_in_laid h n k s hs kl kb len =

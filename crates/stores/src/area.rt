@@ -105,6 +105,8 @@ impl<'a> UnitStore for AreaStore<'a> {
         Ok(())
     }
 
+    // inlined, so that a hop length that the compiler knows is worked out in place
+    #[inline]
     fn put(&mut self, unit: u8, bytes: &[u8]) -> Result<(), Refusal>
         ensures answer { result ≡ put_answer (area_meaning self.old) unit (length bytes.now) }
         ensures store { area_meaning self.new ≡ put_store (area_meaning self.old) unit bytes.now }
@@ -142,12 +144,27 @@ fn take_half(unit: &[u8], half: Half, hop: usize, place: &mut [u8])
     requires long { length unit.now ≡ 2 * length place.old }
     ensures { place.new ≡ half_in hop (length place.old) unit.now (half_number half) }
 {
+    if hop == 1 {
+        // a call that copies takes longer than a byte
+        return take_alternate(unit, half, place);
+    }
     if place.is_empty() {
         return; // the hop length may be 0
     }
     let first = half.position() * hop;
     for (q, pair) in unit.chunks_exact(2 * hop).enumerate() {
         place[q * hop..(q + 1) * hop].copy_from_slice(&pair[first..first + hop]);
+    }
+}
+
+// The same where the bytes of the two halves alternate.
+fn take_alternate(unit: &[u8], half: Half, place: &mut [u8])
+    requires { length unit.now ≡ 2 * length place.old }
+    ensures { place.new ≡ half_in 1 (length place.old) unit.now (half_number half) }
+{
+    let first = half.position();
+    for (i, byte) in place.iter_mut().enumerate() {
+        *byte = unit[2 * i + first];
     }
 }
 
@@ -158,6 +175,9 @@ fn lay(unit: &mut [u8], hop: usize, first: &[u8], second: &[u8])
     requires same { length second.now ≡ length first.now }
     ensures { unit.new ≡ laid hop (length first.now) (holds first.now second.now) }
 {
+    if hop == 1 {
+        return lay_alternate(unit, first, second);
+    }
     if first.is_empty() {
         return; // the hop length may be 0
     }
@@ -166,5 +186,19 @@ fn lay(unit: &mut [u8], hop: usize, first: &[u8], second: &[u8])
         let from = q * (2 * hop);
         unit[from..from + hop].copy_from_slice(a);
         unit[from + hop..from + 2 * hop].copy_from_slice(b);
+    }
+}
+
+// The same with the bytes of the two halves by turns; apart from `put`, which is inlined.
+#[inline(never)]
+fn lay_alternate(unit: &mut [u8], first: &[u8], second: &[u8])
+    requires long { length unit.old ≡ 2 * length first.now }
+    requires same { length second.now ≡ length first.now }
+    ensures { unit.new ≡ laid 1 (length first.now) (holds first.now second.now) }
+{
+    // two places are written at each position
+    for i in 0..first.len() {
+        unit[2 * i] = first[i];
+        unit[2 * i + 1] = second[i];
     }
 }

@@ -1,14 +1,9 @@
 -- The fetched symbols by position, from the last entry of the list to the first.
-use Rattle.std.proofs.Common.{◌≡◌, ℕ, suc, ◌+◌, ◌-◌, ◌<◌, ◌≤◌, Bool, true, false, cond, not, ◌&&◌, T, eqb, ltb, ◌≢◌, ◌⊎◌, List, [], ◌∷◌, ◌++◌, length, Some, get_or, sym, refl, ap, ◌∙◌, subst, ap₂, inl, inr, suc-ne-zero, arith, eqb→eq, ltb→lt, nltb→le}
-use denote.Ref.{Bor}
+use Rattle.std.proofs.Common.{◌≡◌, ℕ, zero, suc, ◌+◌, ◌<◌, ◌≤◌, min, Bool, true, false, cond, not, ◌&&◌, T, eqb, ltb, ◌≢◌, ◌⊎◌, List, [], ◌∷◌, ◌++◌, length, get_or, take, replicate, sym, refl, ap, ◌∙◌, subst, ap₂, inl, inr, suc-ne-zero, arith, eqb→eq, ltb→lt, nltb→le}
 use lib.Dec.{eqb_refl}
-use Rattle.std.proofs.lemmas.List.{get_or_past}
-use Rattle.std.specs.declared.slice.Iter.{Iter}
-use Rattle.std.specs.Iterator.{YieldsNth}
-use Rattle.std.specs.Slice.Iter.{iter_rest, iter_steps_back}
+use Rattle.std.proofs.lemmas.List.{get_or_past, length-take}
 use Rattle.tables.proofs.Tests.{T_true, not_t_false}
 use Rattle.rebuild.specs.Gathered.{fetched_of, fetched_by}
-use Rattle.rebuild.proofs.Backwards.{pair_off}
 
 same : (a b : ℕ) → a ≡ b → eqb a b ≡ true
 same a b e = T_true (eqb a b) (subst (λ (z : ℕ). T (eqb a z)) e (eqb_refl a))
@@ -33,13 +28,22 @@ fetched_last none (d ∷ list) es (y ∷ xs) ys e x h p n z =
     ap (cond (eqb d.0 (p + 1) && eqb d.1 h) y) (fetched_last none list es xs ys e x h p (omega arith) z)
 
 -- one pair less, from the back
-pub fetched_off : {S : Type 0} (none : S) (s t : Iter (ℕ × ℕ)) (u v : Iter S) (e : Bor (ℕ × ℕ)) (x : Bor S) (h p : ℕ)
-    → YieldsNth iter_steps_back s (length (iter_rest s) - length (iter_rest u)) (Some e) t × YieldsNth iter_steps_back u (length (iter_rest u) - length (iter_rest s)) (Some x) v
-    → fetched_of none (iter_rest s) (iter_rest u) h p ≡ fetched_of (cond (eqb e.now.0 (p + 1) && eqb e.now.1 h) x.now none) (iter_rest t) (iter_rest v) h p
-fetched_off none s t u v e x h p w =
-    let off = pair_off s t u v e x w in
-    ap₂ (λ es xs. fetched_of none es xs h p) off.2 off.3
-    ∙ fetched_last none (iter_rest t) off.0 (iter_rest v) off.1 e.now x.now h p off.4 off.5
+pub fetched_pair : {S : Type 0} (none : S) (list es : List (ℕ × ℕ)) (xs ys : List S) (e : ℕ × ℕ) (x : S) (h p : ℕ) → length es ≡ length ys → list ≡ es ++ (e ∷ []) → xs ≡ ys ++ (x ∷ [])
+    → fetched_of none list xs h p ≡ fetched_of (cond (eqb e.0 (p + 1) && eqb e.1 h) x none) es ys h p
+fetched_pair none list es xs ys e x h p n a b = ap₂ (λ l y. fetched_of none l y h p) a b ∙ fetched_last none es [] ys [] e x h p n (inl refl)
+
+-- what stands behind the shorter of the two lists is not fetched
+pub fetched_cut : {S : Type 0} (none : S) (list : List (ℕ × ℕ)) (xs : List S) (h p n : ℕ) → n ≡ min (length list) (length xs) → fetched_of none list xs h p ≡ fetched_of none (take n list) (take n xs) h p
+fetched_cut none [] xs h p n e = sym (fetched_end none (take n []) (take n xs) h p (inl (omega (arith, length-take {A = ℕ × ℕ} n []))))
+fetched_cut {S = S} none (d ∷ list) [] h p n e = sym (fetched_end none (take n (d ∷ list)) (take n []) h p (inr (omega (arith, length-take {A = S} n []))))
+fetched_cut none (d ∷ list) (x ∷ xs) h p zero e = absurd (omega arith)
+fetched_cut none (d ∷ list) (x ∷ xs) h p (suc n) e = ap (cond (eqb d.0 (p + 1) && eqb d.1 h) x) (fetched_cut none list xs h p n (omega arith))
+
+-- a row of one symbol
+pub filled : {S : Type 0} (n : ℕ) (x d : S) (p : ℕ) → x ≡ d → get_or (replicate n x) p d ≡ d
+filled zero x d p e = refl
+filled (suc n) x d zero e = e
+filled (suc n) x d (suc p) e = filled n x d p e
 
 -- its entry is of the half, or of the other one
 pub of_half : {S : Type 0} (b : Bool) (m n : ℕ) (x y : S) → m ≡ n → cond (b && eqb m n) x y ≡ cond b x y

@@ -1,5 +1,4 @@
 pub mod Gathering
-mod Backwards
 mod Rows
 mod Standing
 pub mod Exchange

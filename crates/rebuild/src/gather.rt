@@ -10,7 +10,13 @@ pub(crate) fn by_position<S: Symbol + Copy>(list: &[(u8, u8)], fetched: &[S], ha
     ensures { (p : ℕ) → slice_index_or result p S.zero ≡ fetched_by S.zero list.now fetched.now half p }
 {
     let mut symbols = [S::zero(); 14];
-    for (entry, symbol) in list.iter().zip(fetched).rev() {
+    // both from the back: a zip that is reversed compares their lengths at each pair
+    let count = list.len().min(fetched.len());
+    let pairs = list[..count]
+        .iter()
+        .rev()
+        .zip(fetched[..count].iter().rev());
+    for (entry, symbol) in pairs {
         if entry.1 == half {
             place(&mut symbols, entry.0, *symbol);
         }

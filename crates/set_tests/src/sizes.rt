@@ -96,14 +96,15 @@ fn figures(rt: HostRuntime) {
     );
 }
 
-// A unit to lose at some half size: the area and the data before, and the new bytes of a data unit. They are fields, since an array
-// of a const parameter's length that a function makes itself is not known to fit in memory.
+// A unit to lose at some half size: the area and the data before, the new bytes of a data unit, and the place that it is read
+// into. They are fields, since an array of a const parameter's length that a function makes itself is not known to fit in memory.
 #[derive(Clone, Copy)]
 struct Lost<const AREA: usize, const DATA: usize, const UNIT: usize> {
     u: u8,
     area: [u8; AREA],
     bytes: [u8; DATA],
     unit: [u8; UNIT],
+    place: [u8; UNIT],
 }
 
 impl<const AREA: usize, const DATA: usize, const UNIT: usize> Lost<AREA, DATA, UNIT> {
@@ -114,8 +115,12 @@ impl<const AREA: usize, const DATA: usize, const UNIT: usize> Lost<AREA, DATA, U
         set: &mut Set<V, S>,
         data: &mut [u8],
     ) -> Result<(), Fail> {
-        let Lost { u, unit, .. } = *self;
-        let mut place: [u8; UNIT] = mixed(13);
+        let Lost {
+            u,
+            unit,
+            mut place,
+            ..
+        } = *self;
         let changed = if u <= 10 { u } else { 1 };
         assert_eq!(rt; set.fill(data), Ok(()));
         assert_eq!(rt; set.lose(u), Ok(()));
@@ -152,6 +157,7 @@ fn halves_of_one_byte(rt: HostRuntime) -> Result<(), Fail> {
             area: [0; 28],
             bytes: mixed::<20>(u as u32),
             unit: mixed::<2>(10),
+            place: [0; 2],
         };
         under_all(&rt, &lost)?;
     }
@@ -166,6 +172,7 @@ fn largest_halves(rt: HostRuntime) -> Result<(), Fail> {
             area: mixed::<14_336>(12),
             bytes: mixed::<10_240>(u as u32),
             unit: mixed::<1024>(11),
+            place: mixed::<1024>(13),
         };
         under_all(&rt, &lost)?;
     }

@@ -1,9 +1,11 @@
 -- The units of a store, put or lost one after the other.
-use Rattle.std.proofs.Common.{◌≡◌, ℕ, ◌+◌, ◌*◌, ◌<◌, ◌≤◌, true, cond, eqb, leb, List, ◌++◌, length, sym, refl, ap, ◌∙◌, ⊎_elim, arith}
+use Rattle.std.proofs.Common.{◌≡◌, ℕ, ◌+◌, ◌*◌, ◌<◌, ◌≤◌, true, false, cond, eqb, leb, List, [], ◌++◌, length, replicate, sym, refl, ap, ◌∙◌, ⊎_elim, arith}
 use Rattle.std.proofs.lemmas.List.{take_at, drop_at}
 use Rattle.std.proofs.lemmas.Bool.{false≢true, cases_eq, cases_Bool, eq-eqb, ne_eqb, cond-true, cond-false, cond_both, and_parts, leb-true, le-leb, and_from}
 use Rattle.stores.specs.Calls.{lose_store, put_store}
 use Rattle.stores.specs.Model.{Store, Slot, missing, holds, is_unit, with_slot, halves, half_of, standing, SlotOk, Sound}
+use Rattle.sets.specs.Fillings.{Make}
+use Rattle.sets.specs.Sets.{View, idle}
 
 pub unit_true : (u : ℕ) → 1 ≤ u → u ≤ 14 → is_unit u ≡ true
 unit_true u a b = and_from (leb 1 u) (leb u 14) (le-leb 1 u a) (le-leb u 14 b)
@@ -43,6 +45,10 @@ pub empty_is : (s : Store) (n : ℕ) → Sound s → s.size ≡ n → ((k : ℕ)
 empty_is s n 𝓢 e w = store_is s n (λ _. missing) e (λ u. all_units s (λ _. missing) 𝓢 w u ∙ cond_both (is_unit u) missing missing (λ x. x ≡ missing) (λ _. refl) (λ _. refl))
 
 -- a set without a rebuild, by its parts
+pub idle_is : (m : Make) {s t : Store} {list : List (ℕ × ℕ)} → s ≡ t → list ≡ []
+    → ◌≡◌ {A = View} (record { make = m; store = s; under = 0; stood = replicate 14 false; list = list; gathered = [] }) (idle m t)
+idle_is m e f = λ i. record { make = m; store = e i; under = 0; stood = replicate 14 false; list = f i; gathered = [] }
+
 -- a half of a unit that stands has its size
 pub standing_long : (s : Store) (u : ℕ) → Sound s → standing (s.unit u) ≡ true → length (half_of (s.unit u) 1) ≡ s.size
 standing_long s u 𝓢 t = go (s.unit u) (𝓢.slots u) t

@@ -10,6 +10,7 @@ use Rattle.sets.specs.Refusals.{number}
 use Rattle.sets.specs.Sets.{View}
 use Rattle.sets.specs.declared.refusal.Refusal.{Refusal}
 use Rattle.sets.specs.declared.open_rebuild.OpenRebuild.{OpenRebuild}
+use Rattle.sets.specs.declared.room.Room.{Room}
 use Rattle.sets.specs.declared.set.Set.{Set}
 use Rattle.sets.specs.declared.ticket.Open.{Open}
 use Rattle.sets.specs.declared.ticket.Full.{Full}
@@ -23,8 +24,8 @@ abbrev pub make : {V : Type 0} → scheme.Ghosts V → V → Make
 make g s = record { version = g.version s; table = g.table s; sound = g.sound s }
 
 -- the halves gathered so far, each as long as those of the store
-abbrev pub gathered_of : ℕ → OpenRebuild → List (List ℕ)
-gathered_of h r = map (take h) (take r.count r.room.halves)
+abbrev pub gathered_of : ℕ → Room → OpenRebuild → List (List ℕ)
+gathered_of h room r = map (take h) (take r.count room.halves)
 
 -- what is known of an open rebuild; of none, that no unit stood, nothing is listed and nothing gathered
 abbrev pub under_of : Option OpenRebuild → ℕ
@@ -39,9 +40,9 @@ abbrev pub list_of : Option OpenRebuild → List (ℕ × ℕ)
 list_of None = []
 list_of (Some r) = listed r.list
 
-abbrev pub gathered_in : ℕ → Option OpenRebuild → List (List ℕ)
-gathered_in h None = []
-gathered_in h (Some r) = gathered_of h r
+abbrev pub gathered_in : ℕ → Room → Option OpenRebuild → List (List ℕ)
+gathered_in h room None = []
+gathered_in h room (Some r) = gathered_of h room r
 
 abbrev pub view : {V S : Type 0} (g : scheme.Ghosts V) (h : store.Ghosts S) → Set V S → View
 view g h s = record {
@@ -50,7 +51,7 @@ view g h s = record {
   under = under_of s.rebuild;
   stood = stood_of s.rebuild;
   list = list_of s.rebuild;
-  gathered = gathered_in (h.model s.store).size s.rebuild;
+  gathered = gathered_in (h.model s.store).size s.room s.rebuild;
 }
 
 -- fill and lose answer 0

@@ -5,6 +5,7 @@ ghost use Rattle.sets.specs.Meaning.{make, view, done};
 ghost use Rattle.sets.specs.Sets.{new_set, answer, after};
 
 use crate::refusal::Refusal;
+use crate::room::Room;
 use crate::set::Set;
 use codes::scheme::Scheme;
 use stores::store::UnitStore;
@@ -22,6 +23,7 @@ impl<V: Scheme, S: UnitStore> Set<V, S> {
         Set {
             scheme,
             store,
+            room: Room::new(),
             rebuild: None,
         }
     }
@@ -33,6 +35,7 @@ impl<V: Scheme, S: UnitStore> Set<V, S> {
         let Set {
             scheme,
             store,
+            room: _,
             rebuild: _,
         } = self;
         (scheme, store)

@@ -3,7 +3,6 @@ ghost use Rattle.std.specs.Prelude.{◌≡◌, ◌-◌, ◌≤◌, false};
 ghost use Rattle.tables.specs.Codewords.{count as count_of};
 ghost use Rattle.rebuild.specs.Plans.{stands_in};
 
-use crate::room::Room;
 use codes::list::FetchList;
 use units::number::UnitNumber;
 
@@ -13,8 +12,7 @@ pub(crate) struct OpenRebuild {
     // which units stood when it was opened, and its list
     pub(crate) stood: [bool; 14],
     pub(crate) list: FetchList,
-    // the halves gathered: the first `count`, in fixed memory since no call allocates
-    pub(crate) room: Room,
+    // how many halves are gathered: the first in the set's room
     pub(crate) count: u8,
     ghost within: { count ≤ list.len },
     ghost lost: { stands_in stood (unit.number - 1) ≡ false },

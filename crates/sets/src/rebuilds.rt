@@ -8,7 +8,6 @@ ghost use Rattle.sets.specs.Sets.{answer, after, status};
 use crate::halves::standing;
 use crate::open_rebuild::OpenRebuild;
 use crate::refusal::Refusal;
-use crate::room::Room;
 use crate::set::Set;
 use crate::ticket::{AnyTicket, FullTicket, Gathered, OpenTicket, Stage, Ticket};
 use codes::fetch::{count_standing, fetch_list};
@@ -38,7 +37,6 @@ impl<V: Scheme, S: UnitStore> Set<V, S> {
             unit,
             stood,
             list,
-            room: Room::new(),
             count: 0,
         });
         Ok(Ticket::new(u, 0))
@@ -51,7 +49,11 @@ impl<V: Scheme, S: UnitStore> Set<V, S> {
         ensures back { returned t result }
     {
         match &mut self.rebuild {
-            Some(rebuild) if rebuild.matches(&t) => Ok(rebuild.gather(&self.store, t)),
+            Some(rebuild) if rebuild.matches(&t) => Ok(rebuild.gather(
+                &self.store,
+                &mut self.room,
+                t,
+            )),
             _ => Err(t),
         }
     }
@@ -64,7 +66,7 @@ impl<V: Scheme, S: UnitStore> Set<V, S> {
     {
         match &self.rebuild {
             Some(rebuild) if rebuild.matches(&t) => {
-                rebuild.put(&self.scheme, &mut self.store);
+                rebuild.put(&self.scheme, &mut self.store, &self.room);
                 self.rebuild = None;
                 Ok(t.end())
             }

@@ -32,5 +32,5 @@ returns-clause-view g c =
     c.count_standing.ensures ∙ ap (λ (st : List Bool). count 14 (stands_in st)) c.standing-stood.ensures in
     let ten : ten_stand (status v) ≡ true = le-leb 10 _ (subst (λ (n : ℕ). 10 ≤ n) counted c.if-count_standing-lt10.false) in
     let put = c.put_changes.ensures.store ∙ ap (changed_store v.make v.store w new) c.write_difference.ensures ∙ ap (λ k. changed v k new) same in
-    ap (λ (s : Store). record { make = v.make; store = s; under = v.under; stood = v.stood; list = v.list; gathered = gathered_in s.size self.rebuild }) put
+    ap (λ (s : Store). record { make = v.make; store = s; under = v.under; stood = v.stood; list = v.list; gathered = gathered_in s.size self.room self.rebuild }) put
     ∙ sym (change_given v u new numbered (eq-eqb (length new) (2 * v.store.size) long) (eq-eqb v.under 0 idle) ten)

@@ -58,7 +58,7 @@ told_answer (told.Read n place) = Answer.Gave n (held place)
 told_answer (told.Opened u n) = Answer.Ticket open_ticket u n
 told_answer (told.More half u n) = Answer.Fetched half open_ticket u n
 told_answer (told.Last half u n) = Answer.Fetched half full_ticket u n
-told_answer (told.Declined e) = Answer.Declined (number e)
+told_answer (told.Declined n) = Answer.Declined n
 
 abbrev pub calls : List Line → List Call
 calls lines = map (λ (l : Line). asked_call l.asked) lines

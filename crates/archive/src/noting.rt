@@ -55,8 +55,8 @@ impl Reply {
             Reply::Opened(t) => Told::Opened(t.unit(), t.count()),
             Reply::Gathered(Gathered::More(half, t)) => Told::More(*half, t.unit(), t.count()),
             Reply::Gathered(Gathered::Last(half, t)) => Told::Last(*half, t.unit(), t.count()),
-            Reply::Declined(e) => Told::Declined(*e),
-            Reply::Kept(_) => Told::Declined(Refusal::WrongTicket),
+            Reply::Declined(e) => Told::Declined(e.number()),
+            Reply::Kept(_) => Told::Declined(Refusal::WrongTicket.number()),
         }
     }
 }

@@ -51,7 +51,8 @@ pub enum Told {
     Opened(u8, u8),
     More((u8, u8), u8, u8),
     Last((u8, u8), u8, u8),
-    Declined(Refusal),
+    // with the number of the refusal; a log that is lent may hold any number before
+    Declined(u8),
 }
 
 // A line of a log: a call and its answer.

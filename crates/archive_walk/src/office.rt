@@ -6,7 +6,6 @@ use codes::cauchy::Cauchy;
 use codes::poly::Poly;
 use codes::scheme::{GoesWith, NonXor, Rs, Scheme, Xor, XorPlus};
 use codes::version::Version;
-use sets::refusal::Refusal;
 use sets::ticket::AnyTicket;
 use std::alloc::{AllocError, Global};
 use std::fmt;
@@ -54,11 +53,11 @@ impl Kind {
     }
 }
 
-// A log of that many lines, before anything is noted in it: a line that says that no unit 0 was lost.
+// A log of that many lines, before anything is noted in it: each line has the number 0, which is no refusal.
 fn blank_log<'a>(heap: Global, len: usize) -> Result<Vec<Line<'a>>, AllocError> {
     let blank = Line {
         asked: Asked::Lose(0),
-        told: Told::Declined(Refusal::NoUnit),
+        told: Told::Declined(0),
     };
     vec![in heap; blank; len]
 }

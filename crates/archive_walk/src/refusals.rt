@@ -1,7 +1,7 @@
 // A refusal of each number.
 use crate::clerk::Step;
 use crate::office::{Kind, run_with_old};
-use crate::telling::print_asked;
+use crate::telling::{Meaning, print_asked};
 use archive::order::{Line, Told};
 use recordings::cutting::Part;
 use std::io;
@@ -49,10 +49,10 @@ fn show_set_refusals(rt: &HostRuntime, part: Part) -> io::Result<()> {
 
 // A line of a log, if its call was declined.
 fn show_declined(rt: &impl Print, line: &Line) -> io::Result<()> {
-    if let Told::Declined(e) = line.told {
-        print!(rt; "  {:>2}  ", e.number())?;
+    if let Told::Declined(number) = line.told {
+        print!(rt; "  {number:>2}  ")?;
         print_asked(rt, &line.asked)?;
-        println!(rt; ": {e}")?;
+        println!(rt; ": {}", Meaning(number))?;
     }
     Ok(())
 }

@@ -1,6 +1,28 @@
 // What is printed of a log.
 use archive::order::{Asked, Line, Told};
-use std::io;
+use sets::refusal::Refusal;
+use std::{fmt, io};
+
+// What a refusal of a set means, by the number that a log has.
+#[derive(Clone, Copy)]
+pub struct Meaning(pub u8);
+
+impl fmt::Display for Meaning {
+    fn fmt<W: fmt::Write>(&self, f: &mut fmt::Formatter<W>) -> fmt::Result {
+        let refusals = [
+            Refusal::NoUnit,
+            Refusal::WrongLength,
+            Refusal::TooFew,
+            Refusal::RebuildOpen,
+            Refusal::WrongTicket,
+            Refusal::Stands,
+        ];
+        match refusals.iter().find(|refusal| refusal.number() == self.0) {
+            Some(refusal) => write!(f, "{refusal}"),
+            None => f.write_str("no refusal of a set"),
+        }
+    }
+}
 
 // How many bytes of the two are the same, position by position.
 pub fn count_same(one: &[u8], other: &[u8]) -> usize {
@@ -111,7 +133,7 @@ impl<'a> Teller<'a> {
                 )
             }
             (_, Told::Opened(u, n)) => println!(rt; ": a ticket with unit {u} and count {n}"),
-            (_, Told::Declined(e)) => println!(rt; ": declined with {}, {e}", e.number()),
+            (_, Told::Declined(n)) => println!(rt; ": declined with {n}, {}", Meaning(n)),
             _ => println!(rt; ""),
         }
     }

@@ -22,15 +22,12 @@ const LOST: [u8; 4] = [2, 8, 10, 12];
 // The whole walk over a recording of `len` bytes that is padded with zeros to `bytes`.
 pub fn show_recording(rt: &HostRuntime, len: usize, bytes: &[u8]) -> io::Result<()> {
     show_sets(rt, len, bytes)?;
-    let mut tallies = Vec::new(rt.alloc());
-    for kind in KINDS {
-        tallies.push((kind, show_kind(rt, kind, bytes)?))?;
-    }
+    let tallies = KINDS.try_map(|kind| show_kind(rt, kind, bytes))?;
     let part = last_part(bytes);
     show_scenes(rt, part)?;
     show_refusals(rt, part)?;
     println!(rt; "\nIn all, for the lost boxes above:")?;
-    for (kind, tally) in &tallies {
+    for (kind, tally) in KINDS.iter().zip(&tallies) {
         show_total(rt, *kind, *tally)?;
     }
     Ok(())
